@@ -1,0 +1,7 @@
+pub mod Tests
+pub mod Same
+pub mod Arms
+pub mod Bits
+pub mod BitLaws
+pub mod Walk
+pub mod Sign
