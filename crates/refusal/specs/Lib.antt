@@ -1,0 +1,3 @@
+pub mod Report
+pub mod Judge
+pub mod JudgeLaws
