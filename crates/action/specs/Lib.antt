@@ -1,0 +1,13 @@
+pub mod Actions
+pub mod Amount
+pub mod Table
+pub mod Limits
+pub mod Known
+pub mod KnownLaws
+pub mod Price
+pub mod Wear
+pub mod Gain
+pub mod Wait
+pub mod Bounds
+pub mod BoundLaws
+pub mod Worked
