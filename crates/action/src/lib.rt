@@ -11,6 +11,7 @@ pub use gain::calc_progress_increase;
 pub use gain::calc_quality_increase;
 pub use known::check_action;
 pub use known::check_list;
+pub use numbers::ACTIONS;
 pub use price::Combo;
 pub use price::calc_cp_cost;
 pub use price::charged;

@@ -1,5 +1,6 @@
 pub mod Tests
 pub mod Same
+pub mod Lists
 pub mod Arms
 pub mod Bits
 pub mod BitLaws

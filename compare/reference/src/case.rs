@@ -1,0 +1,70 @@
+//! The line of a case; its layout and the kinds stand in compare/README.md.
+
+pub const WIDTH: usize = 128;
+pub const LAST_KIND: u8 = 20;
+pub const TEXT_ROOM: usize = 36;
+const TEXT_START: usize = 91;
+
+pub struct Case {
+    pub kind: u8,
+    pub numbers: [u32; 8],
+    text: [u8; TEXT_ROOM],
+}
+
+impl Case {
+    /// The numbers not given are 0.
+    pub fn new(kind: u8, given: &[u32]) -> Case {
+        let mut numbers = [0; 8];
+        numbers[..given.len()].copy_from_slice(given);
+        Case { kind, numbers, text: [b' '; TEXT_ROOM] }
+    }
+
+    /// A case whose first number is the length of its text.
+    pub fn with_text(kind: u8, text: &[u8]) -> Case {
+        let mut case = Case::new(kind, &[text.len() as u32]);
+        case.text[..text.len()].copy_from_slice(text);
+        case
+    }
+
+    pub fn with_list(kind: u8, list: &[u32]) -> Case {
+        let text: Vec<u8> = list.iter().map(|number| mark(*number) as u8).collect();
+        Case::with_text(kind, &text)
+    }
+
+    pub fn text(&self) -> &[u8] {
+        &self.text[..self.numbers[0] as usize]
+    }
+
+    pub fn list(&self) -> impl Iterator<Item = u32> + '_ {
+        self.text().iter().map(|byte| u32::from(byte - b'@'))
+    }
+
+    pub fn line(&self) -> Vec<u8> {
+        let numbers: String = self.numbers.iter().map(|number| format!(" {number:010}")).collect();
+        let mut line = format!("{:02}{numbers} ", self.kind).into_bytes();
+        line.extend(self.text);
+        line.push(b'\n');
+        line
+    }
+
+    /// None unless the line is exactly one that `line` writes.
+    pub fn read(line: &[u8]) -> Option<Case> {
+        let mut numbers = [0; 8];
+        for (place, number) in numbers.iter_mut().enumerate() {
+            *number = digits(line.get(3 + 11 * place..13 + 11 * place)?)?;
+        }
+        let kind = u8::try_from(digits(&line[..2])?).ok()?;
+        let text = line.get(TEXT_START..TEXT_START + TEXT_ROOM)?.try_into().ok()?;
+        let case = Case { kind, numbers, text };
+        ((1..=LAST_KIND).contains(&kind) && case.line() == line).then_some(case)
+    }
+}
+
+/// A number below 64 as one byte that can be read in a line.
+pub fn mark(number: u32) -> char {
+    char::from(b'@' + number as u8)
+}
+
+fn digits(bytes: &[u8]) -> Option<u32> {
+    std::str::from_utf8(bytes).ok()?.parse().ok()
+}

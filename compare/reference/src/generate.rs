@@ -1,0 +1,136 @@
+//! Random cases: mostly inside the limits, and often at their edges.
+
+use crate::actions;
+use crate::case::{Case, LAST_KIND, TEXT_ROOM};
+use crate::formulas::limits;
+use crate::random::Random;
+use crafty::Action;
+
+const KNOWN: u32 = 31;
+
+/// The kinds take turns, so that each gets its share of the count.
+pub fn cases(seed: u64, count: u64) -> Vec<Case> {
+    let mut random = Random::new(seed);
+    let kinds = (1..=LAST_KIND).cycle();
+    kinds.take(count as usize).map(|kind| case(&mut random, kind)).collect()
+}
+
+fn case(random: &mut Random, kind: u8) -> Case {
+    match kind {
+        1 | 3 => Case::new(kind, &[number(random)]),
+        2 => Case::new(kind, &[number(random), random.below(5)]),
+        4..=6 => with_text_room(random, kind),
+        7 => Case::with_text(kind, &word(random)),
+        9 => Case::with_list(kind, &list(random)),
+        8 | 13..=15 => Case::new(kind, &[set(random)]),
+        10..=12 => Case::new(kind, &[set(random), number(random)]),
+        16 => with_member_room(random),
+        17 => Case::new(kind, &[set(random), set(random)]),
+        _ => Case::new(kind, &inputs(random, kind)),
+    }
+}
+
+/// The number of an action, one in eight unknown.
+fn number(random: &mut Random) -> u32 {
+    if random.one_in(8) {
+        random.between(KNOWN, 40)
+    } else {
+        random.below(KNOWN)
+    }
+}
+
+fn action(random: &mut Random) -> Action {
+    Action::ACTIONS[random.place(Action::ACTIONS.len())]
+}
+
+fn with_text_room(random: &mut Random, kind: u8) -> Case {
+    let number = number(random);
+    let needed = actions::known(number, 0).map_or(20, |action| actions::text(kind, action).len());
+    Case::new(kind, &[number, room(random, needed as u32, 64)])
+}
+
+fn with_member_room(random: &mut Random) -> Case {
+    let set = set(random);
+    Case::new(16, &[set, room(random, set.count_ones(), 40)])
+}
+
+/// A room within two of the size needed, or now and then of any size.
+fn room(random: &mut Random, needed: u32, greatest: u32) -> u32 {
+    if random.one_in(4) {
+        return random.between(0, greatest);
+    }
+    random.between(needed.saturating_sub(2), needed + 2)
+}
+
+/// A name, a name with one byte damaged, or a label.
+fn word(random: &mut Random) -> Vec<u8> {
+    let action = action(random);
+    let mut word = action.name().as_bytes().to_vec();
+    let place = random.place(word.len());
+    match random.below(12) {
+        0 => word[place] = letter(random),
+        1 => word.insert(place, letter(random)),
+        2 => word.push(letter(random)),
+        3 => drop(word.remove(place)),
+        4 => word[place] ^= 1 << random.below(8),
+        5 => word = action.label().as_bytes().to_vec(),
+        _ => {}
+    }
+    // A line feed would end the line and a zero byte is not text.
+    word.retain(|byte| *byte != b'\n' && *byte != 0);
+    word
+}
+
+fn letter(random: &mut Random) -> u8 {
+    random.between(32, 126) as u8
+}
+
+/// A list of known numbers, in one of four with unknown ones at one or two places.
+fn list(random: &mut Random) -> Vec<u32> {
+    let length = random.place(TEXT_ROOM + 1);
+    let mut list: Vec<u32> = (0..length).map(|_| random.below(KNOWN)).collect();
+    if length > 0 && random.one_in(4) {
+        for _ in 0..2 {
+            list[random.place(length)] = random.between(KNOWN, 63);
+        }
+    }
+    list
+}
+
+/// Even, sparse and dense sets, one in eight with bit 31.
+fn set(random: &mut Random) -> u32 {
+    let bits = match random.below(4) {
+        0 => random.bits() & random.bits() & random.bits(),
+        1 => random.bits() | random.bits() | random.bits(),
+        2 => 1 << random.below(KNOWN),
+        _ => random.bits(),
+    };
+    if random.one_in(8) {
+        bits | 1 << 31
+    } else {
+        bits & !(1 << 31)
+    }
+}
+
+/// The inputs of a formula, each by its own limit.
+fn inputs(random: &mut Random, kind: u8) -> [u32; 8] {
+    let limits = limits(kind);
+    let mut inputs = limits.map(|limit| around(random, limit));
+    if kind == 19 && random.one_in(4) {
+        // These two have rules of their own.
+        let special = [Action::ByregotsBlessing, Action::TrainedEye];
+        inputs[0] = special[random.place(2)] as u32;
+    }
+    inputs
+}
+
+/// A value up to the limit, often an edge of it and seldom just above; 0 where a number is unused.
+fn around(random: &mut Random, limit: u32) -> u32 {
+    match random.below(64) {
+        _ if limit == 0 => 0,
+        0 => limit + 1,
+        1..=4 => limit,
+        5..=24 => 0,
+        _ => random.between(0, limit),
+    }
+}

@@ -1,0 +1,61 @@
+//! The Rust's side of the comparison: `fixed` and `random SEED COUNT` write cases, `answer` reads
+//! cases from standard input and writes one line for each.
+
+mod actions;
+mod case;
+mod fixed;
+mod formulas;
+mod generate;
+mod random;
+mod refusal;
+mod room;
+mod sets;
+
+use case::{Case, WIDTH};
+use std::io::{self, Read, Write};
+
+fn main() -> io::Result<()> {
+    let arguments: Vec<String> = std::env::args().skip(1).collect();
+    let words: Vec<&str> = arguments.iter().map(String::as_str).collect();
+    match words[..] {
+        ["fixed"] => write_cases(&fixed::cases()),
+        ["random", seed, count] => write_cases(&generate::cases(number(seed), number(count))),
+        ["answer"] => answer_cases(),
+        _ => fail("one of: fixed | random SEED COUNT | answer".to_string()),
+    }
+}
+
+fn number(word: &str) -> u64 {
+    word.parse().unwrap_or_else(|_| fail(format!("{word} is no number")))
+}
+
+fn fail(why: String) -> ! {
+    eprintln!("reference: {why}");
+    std::process::exit(2)
+}
+
+fn write_cases(cases: &[Case]) -> io::Result<()> {
+    let lines: Vec<u8> = cases.iter().flat_map(Case::line).collect();
+    io::stdout().write_all(&lines)
+}
+
+fn answer_cases() -> io::Result<()> {
+    let mut input = Vec::new();
+    io::stdin().read_to_end(&mut input)?;
+    let mut answers = String::new();
+    for (place, line) in input.chunks(WIDTH).enumerate() {
+        let case =
+            Case::read(line).unwrap_or_else(|| fail(format!("line {} is no case", place + 1)));
+        answers += &answer(&case);
+        answers.push('\n');
+    }
+    io::stdout().write_all(answers.as_bytes())
+}
+
+fn answer(case: &Case) -> String {
+    match case.kind {
+        1..=7 => actions::answer(case),
+        8..=17 => sets::answer(case),
+        _ => formulas::answer(case),
+    }
+}

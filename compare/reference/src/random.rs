@@ -1,0 +1,33 @@
+//! A seeded generator of numbers (splitmix64): the same seed gives the same cases everywhere.
+
+pub struct Random(u64);
+
+impl Random {
+    pub fn new(seed: u64) -> Random {
+        Random(seed)
+    }
+
+    pub fn bits(&mut self) -> u32 {
+        self.0 = self.0.wrapping_add(0x9E37_79B9_7F4A_7C15);
+        let mixed = (self.0 ^ (self.0 >> 30)).wrapping_mul(0xBF58_476D_1CE4_E5B9);
+        let mixed = (mixed ^ (mixed >> 27)).wrapping_mul(0x94D0_49BB_1331_11EB);
+        ((mixed ^ (mixed >> 31)) >> 32) as u32
+    }
+
+    /// The high part of a product is as even as the bits and never reaches the end.
+    pub fn below(&mut self, end: u32) -> u32 {
+        ((u64::from(self.bits()) * u64::from(end)) >> 32) as u32
+    }
+
+    pub fn between(&mut self, least: u32, greatest: u32) -> u32 {
+        least + self.below(greatest - least + 1)
+    }
+
+    pub fn one_in(&mut self, many: u32) -> bool {
+        self.below(many) == 0
+    }
+
+    pub fn place(&mut self, length: usize) -> usize {
+        self.below(length as u32) as usize
+    }
+}

@@ -1,0 +1,33 @@
+-- `ActionSet::highest` meets its contract.
+-- Assumes nothing.
+use mathlib.Core.Path.{refl, sym, ap, _∙_}
+use native.Mathlib.Omega.{arith}
+use borrow.Author.Needs.{needs}
+use Rattle.refusal.specs.JudgeLaws.{stopped, onward, answered}
+use Rattle.laws.specs.BitLaws.{highest-is, highest-none, top-member}
+use Rattle.action.specs.Known.{actions}
+use Rattle.action_set.specs.Set.{Inside, highestOf}
+use Rattle.action_set.specs.declared.Highest.the-variants.{Is, Empty}
+use Rattle.action_set.specs.SetLaws.{set-shown}
+use Rattle.action_set.proofs.ActionSet.highest.Statement.{statement}
+use Rattle.action_set.proofs.ActionSet.highest.Tie as tie
+
+inside : (c : tie.After-enum-told) → Inside (c .before .before .before .args .self .0)
+inside c = set-shown (c .before .before .check .ensures) (c .enum-told .given .1)
+
+pub highest-spec : {M : Type 1} → statement M
+highest-spec =
+    tie.close
+    (tie.spec
+    (λ c κs. tt)
+    (λ c. search needs)
+    (λ c. stopped (c .before .before .before .check .ensures) (c .before .inside .given .1))
+    (λ c. search needs)
+    (λ c.
+    onward (c .before .before .before .check .ensures) (c .before .enum-told .given .1)
+    (answered refl (sym (ap (highestOf Is Empty) (c .if1 .taken) ∙ highest-none Is Empty actions))))
+    (λ c κs. (omega arith, inside (c .before)))
+    (λ c.
+    let k = c .before .before in
+    onward (k .before .before .check .ensures) (k .enum-told .given .1)
+    (answered refl (sym (highest-is Is Empty actions _ _ (top-member actions _ _ (inside k) (c .top .ensures) .known) (c .top .ensures))))))

@@ -1,0 +1,22 @@
+-- `ActionSet::is_empty` meets its contract.
+-- Assumes nothing.
+use mathlib.Core.Path.{refl, ap}
+use borrow.Author.Needs.{needs}
+use Rattle.refusal.specs.JudgeLaws.{stopped, onward, answered}
+use Rattle.action_set.specs.SetLaws.{set-shown}
+use Rattle.action_set.specs.declared.Asked.the-variants.{Is}
+use Prim.Native.Nat.{ℕ}
+use lib.Dec.{eqb}
+use Rattle.action_set.proofs.ActionSet.is_empty.Statement.{statement}
+use Rattle.action_set.proofs.ActionSet.is_empty.Tie as tie
+
+pub is-empty-spec : {M : Type 1} → statement M
+is-empty-spec =
+    tie.close
+    (tie.spec
+    (λ c κs. tt)
+    (λ c. search needs)
+    (λ c. stopped (c .before .before .before .check .ensures) (c .before .inside .given .1))
+    (λ c. search needs)
+    (λ c κs. set-shown (c .before .before .check .ensures) (c .enum-told .given .1))
+    (λ c. onward (c .before .before .before .check .ensures) (c .before .enum-told .given .1) (answered refl (ap (λ (k : ℕ). Is (eqb k 0)) (c .size .ensures)))))

@@ -1,0 +1,51 @@
+-- A set of actions is a number below 2 ^ 31, in which bit n stands for action n.
+-- Assumes nothing.
+use mathlib.Core.Bool.{Bool, true, false, cond, not, _&&_, _||_}
+use mathlib.Core.List.{List, [], _∷_}
+use Prim.Native.Nat.{ℕ, zero, suc, _^_, _<_}
+use lib.Dec.{eqb, ltb}
+use Rattle.laws.specs.Bits.{has, collect, count, highestBelow}
+use Rattle.refusal.specs.Judge.{Test}
+use Rattle.refusal.specs.declared.Refusal.the-variants.{OutsideLimits}
+use Rattle.action.specs.Known.{actions}
+
+abbrev pub Inside : ℕ → Type 0
+Inside s = s < 2 ^ actions
+
+-- refusal 1: bit 31 of a set is clear
+abbrev pub setTest : ℕ → Test
+setTest s = record { passed = ltb s (2 ^ actions); otherwise = OutsideLimits }
+
+-- the set of the actions for which p holds
+abbrev pub setOf : (ℕ → Bool) → ℕ
+setOf p = collect actions p
+
+abbrev pub withOf : ℕ → ℕ → ℕ
+withOf s n = setOf (λ m. has s m || eqb m n)
+
+abbrev pub withoutOf : ℕ → ℕ → ℕ
+withoutOf s n = setOf (λ m. has s m && not (eqb m n))
+
+-- the members for which f holds
+abbrev pub keepOf : (ℕ → Bool) → ℕ → ℕ
+keepOf f s = setOf (λ m. has s m && f m)
+
+abbrev pub sizeOf : ℕ → ℕ
+sizeOf s = count actions (has s)
+
+-- as an answer, or the answer `none` of the empty set
+abbrev pub highestOf : {A : Type 0} → (ℕ → A) → A → ℕ → A
+highestOf found none s = highestBelow found none actions (has s)
+
+-- m stands in a list
+unfoldable pub listed : List ℕ → ℕ → Bool
+listed [] m = false
+listed (n ∷ rest) m = eqb m n || listed rest m
+
+-- the numbers of `left` from m on for which p holds, in rising order
+unfoldable pub upward : ℕ → ℕ → (ℕ → Bool) → List ℕ
+upward zero m p = []
+upward (suc left) m p = cond (p m) (m ∷ upward left (suc m) p) (upward left (suc m) p)
+
+abbrev pub membersOf : ℕ → List ℕ
+membersOf s = upward actions 0 (has s)

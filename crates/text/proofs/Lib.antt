@@ -1,0 +1,4 @@
+-- What several proofs share.
+-- Assumes nothing.
+mod Spelling
+mod SpelledLaws
