@@ -1,2 +1,3 @@
 mod Same
 mod Kind
+mod Run

@@ -10,4 +10,7 @@ pub mod Gain
 pub mod Wait
 pub mod Bounds
 pub mod BoundLaws
+pub mod Names
+pub mod Texts
+pub mod NameLaws
 pub mod Worked

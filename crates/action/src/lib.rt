@@ -1,6 +1,8 @@
 // The 31 actions of action.rs by number: attributes, prices, gains, waits and text.
 mod gain;
 mod known;
+mod macros;
+mod names;
 mod numbers;
 mod price;
 mod table;
@@ -11,6 +13,11 @@ pub use gain::calc_progress_increase;
 pub use gain::calc_quality_increase;
 pub use known::check_action;
 pub use known::check_list;
+pub use macros::put_macro_text;
+pub use names::Found;
+pub use names::from_name;
+pub use names::put_label;
+pub use names::put_name;
 pub use numbers::ACTIONS;
 pub use price::Combo;
 pub use price::calc_cp_cost;

@@ -8,10 +8,11 @@ use lib.ListN.{length}
 use Rattle.refusal.specs.declared.Report.{Report}
 use Rattle.refusal.specs.Report.{reportOf, success}
 use Rattle.refusal.specs.Judge.{Kind, Says, Writes, roomTest}
+use Rattle.laws.specs.Lists.{elem}
 use Rattle.laws.specs.Bits.{has}
 use Rattle.text.specs.Over.{over}
 use Rattle.action.specs.Known.{actionTest, listTest}
-use Rattle.action_set.specs.Set.{setTest, setOf, withOf, withoutOf, sizeOf, highestOf, listed, membersOf}
+use Rattle.action_set.specs.Set.{setTest, setOf, withOf, withoutOf, sizeOf, highestOf, membersOf}
 use Rattle.action_set.specs.declared.Changed.{Changed}
 use Rattle.action_set.specs.declared.Changed.the-variants as C
 use Rattle.action_set.specs.declared.Asked.{Asked}
@@ -71,7 +72,7 @@ abbrev pub FromBits : ℕ → Changed → Type 0
 FromBits s r = Says changed (setTest s ∷ []) (aSet s) r
 
 abbrev pub FromList : List ℕ → Changed → Type 0
-FromList l r = Says changed (listTest l ∷ []) (aSet (setOf (listed l))) r
+FromList l r = Says changed (listTest l ∷ []) (aSet (setOf (elem l))) r
 
 abbrev pub Contains : ℕ → ℕ → Asked → Type 0
 Contains s n r = Says asked (setTest s ∷ actionTest n ∷ []) (A.Is (has s n)) r

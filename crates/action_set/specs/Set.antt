@@ -37,11 +37,6 @@ sizeOf s = count actions (has s)
 abbrev pub highestOf : {A : Type 0} → (ℕ → A) → A → ℕ → A
 highestOf found none s = highestBelow found none actions (has s)
 
--- m stands in a list
-unfoldable pub listed : List ℕ → ℕ → Bool
-listed [] m = false
-listed (n ∷ rest) m = eqb m n || listed rest m
-
 -- the numbers of `left` from m on for which p holds, in rising order
 unfoldable pub upward : ℕ → ℕ → (ℕ → Bool) → List ℕ
 upward zero m p = []

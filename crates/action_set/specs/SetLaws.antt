@@ -11,7 +11,7 @@ use lib.Dec.{eqb}
 use lib.ListN.{length, drop, getD}
 use lib.Pow.{pow-pos}
 use Rattle.laws.specs.Tests.{or-false, or-assoc}
-use Rattle.laws.specs.Lists.{drop-at}
+use Rattle.laws.specs.Lists.{elem, drop-at}
 use Rattle.laws.specs.Bits.{has, count}
 use Rattle.laws.specs.BitLaws.{has-high, has-with, collect-same, collect-lt, set-of-has}
 use Rattle.refusal.specs.declared.Checked.{Checked}
@@ -19,7 +19,7 @@ use Rattle.refusal.specs.declared.Checked.the-variants.{Passed}
 use Rattle.refusal.specs.Judge.{checkedOf}
 use Rattle.refusal.specs.JudgeLaws.{shown}
 use Rattle.action.specs.Known.{actions}
-use Rattle.action_set.specs.Set.{Inside, setTest, setOf, withOf, sizeOf, listed, upward, membersOf}
+use Rattle.action_set.specs.Set.{Inside, setTest, setOf, withOf, sizeOf, upward, membersOf}
 
 pub set-shown : {s : ℕ} {checked : Checked} → checked ≡ checkedOf (setTest s) → checked ≡ Passed → Inside s
 set-shown {s} e p = ltb-true s (2 ^ actions) (shown (setTest s) e p)
@@ -30,23 +30,23 @@ set-inside p = collect-lt p actions
 -- ---- s and the numbers of a list
 
 abbrev pub joined : ℕ → List ℕ → ℕ
-joined s l = setOf (λ m. has s m || listed l m)
+joined s l = setOf (λ m. has s m || elem l m)
 
-pub joined-start : (l : List ℕ) → joined 0 l ≡ setOf (listed l)
-joined-start l = collect-same (λ m. has 0 m || listed l m) (listed l) actions (λ m h. rw (has-high 0 m (pow-pos m)))
+pub joined-start : (l : List ℕ) → joined 0 l ≡ setOf (elem l)
+joined-start l = collect-same (λ m. has 0 m || elem l m) (elem l) actions (λ m h. rw (has-high 0 m (pow-pos m)))
 
 joined-next : (s n : ℕ) (rest : List ℕ) → joined (withOf s n) rest ≡ joined s (n ∷ rest)
-unfolding listed
+unfolding elem
 joined-next s n rest =
-    collect-same (λ m. has (withOf s n) m || listed rest m) (λ m. has s m || listed (n ∷ rest) m) actions
-    (λ m h. rw (has-with actions s n m h) (or-assoc (has s m) (eqb m n) (listed rest m)))
+    collect-same (λ m. has (withOf s n) m || elem rest m) (λ m. has s m || elem (n ∷ rest) m) actions
+    (λ m h. rw (has-with actions s n m h) (or-assoc (has s m) (eqb m n) (elem rest m)))
 
 -- a turn of the loop over a list
 pub joined-turn : (list : List ℕ) (i s : ℕ) {r : ℕ} → i < length list → r ≡ withOf s (getD list i 0) → joined r (drop (i + 1) list) ≡ joined s (drop i list)
 joined-turn list i s {r} h e = ap (λ (x : ℕ). joined x (drop (i + 1) list)) e ∙ joined-next s (getD list i 0) (drop (i + 1) list) ∙ ap (joined s) (sym (drop-at list i h))
 
 pub joined-end : (s : ℕ) → Inside s → joined s [] ≡ s
-unfolding listed
+unfolding elem
 joined-end s h = collect-same (λ m. has s m || false) (has s) actions (λ m l. or-false (has s m)) ∙ set-of-has actions s h
 
 -- ---- the members

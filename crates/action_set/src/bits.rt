@@ -3,10 +3,11 @@ ghost use mathlib.Core.Path.{_≡_};
 ghost use mathlib.Core.Bool.{true};
 ghost use Prim.Native.Nat.{_^_, _≤_, _<_};
 ghost use lib.ListN.{length};
+ghost use Rattle.laws.specs.Lists.{elem};
 ghost use Rattle.laws.specs.Bits.{has, Member, Top};
 ghost use Rattle.text.specs.Over.{Put};
 ghost use Rattle.action.specs.Known.{actions, listTest};
-ghost use Rattle.action_set.specs.Set.{Inside, withOf, withoutOf, keepOf, sizeOf, setOf, listed, membersOf};
+ghost use Rattle.action_set.specs.Set.{Inside, withOf, withoutOf, keepOf, sizeOf, setOf, membersOf};
 use action::ACTIONS;
 
 pub fn bit(n: u8) -> u32
@@ -80,7 +81,7 @@ pub fn keep(s: u32, passing: u32) -> u32
 
 pub fn of_list(list: &[u8]) -> u32
     requires { ⌜ listTest (now list) .passed ≡ true ⌝ }
-    ensures { λ r. ⌜ r ≡ setOf (listed (now (list .entry))) ⌝ }
+    ensures { λ r. ⌜ r ≡ setOf (elem (now (list .entry))) ⌝ }
 {
     let mut s: u32 = 0;
     let mut i = 0;

@@ -6,15 +6,16 @@ use native.Mathlib.Omega.{arith}
 use borrow.Author.Tests.{leb-true}
 use lib.Pow.{pow-pos}
 use lib.ListN.{length, drop, drop-of-length-le}
+use Rattle.laws.specs.Lists.{elem}
 use Rattle.action.specs.Known.{actions, knownFront}
 use Rattle.action.specs.KnownLaws.{known-each}
-use Rattle.action_set.specs.Set.{Inside, setOf, listed}
+use Rattle.action_set.specs.Set.{Inside, setOf}
 use Rattle.action_set.specs.SetLaws.{joined, joined-start, joined-turn, joined-end}
 use Rattle.action_set.proofs.bits.of_list.Statement.{statement}
 use Rattle.action_set.proofs.bits.of_list.Tie as tie
 
 abbrev Inv-loop : tie.InvT-loop
-Inv-loop list s₀ i₀ s i = (joined s (drop i list) ≡ setOf (listed list)) × Inside s
+Inv-loop list s₀ i₀ s i = (joined s (drop i list) ≡ setOf (elem list)) × Inside s
 
 abbrev μ-loop : tie.MeasureT-loop
 μ-loop list s₀ i₀ s i = length list - i

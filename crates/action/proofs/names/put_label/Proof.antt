@@ -1,0 +1,20 @@
+-- `action::names::put_label` meets its contract: label n is text 31 + n.
+-- Assumes nothing.
+use mathlib.Core.Path.{sym, ap}
+use native.Mathlib.Omega.{arith}
+use lib.ListN.{length}
+use borrow.Author.Needs.{needs}
+use Rattle.text.specs.OverLaws.{put-as}
+use Rattle.action.specs.NameLaws.{label-text}
+use Rattle.action.proofs.names.put_label.Statement.{statement}
+use Rattle.action.proofs.names.put_label.Tie as tie
+
+pub put-label-spec : {M : Type 1} → statement M
+put-label-spec =
+    tie.close
+    (tie.spec
+    (λ c. search needs)
+    (λ c. search needs)
+    (λ c κs. omega (arith, c .before .before .pre, ap length (label-text (c .before .before .args .n) (c .before .before .pre .0))))
+    (λ c. search needs)
+    (λ c. put-as (label-text _ (c .before .before .before .before .before .pre .0)) (c .before .before .put-text .ensures)))

@@ -1,0 +1,40 @@
+-- The texts of an action: name, label and macro text, and the action that a name names.
+-- Assumes nothing.
+use mathlib.Core.Bool.{cond}
+use mathlib.Core.List.{List, [], _∷_, _++_}
+use Prim.Native.Nat.{ℕ, zero, suc, _+_, _*_}
+use Prim.Native.String.{String}
+use Rattle.text.specs.Bytes.{bytes}
+use Rattle.laws.specs.Same.{same}
+use Rattle.laws.specs.Lists.{elem}
+use Rattle.action.specs.Table.{Action, table, actionOf, attributesOf}
+use Rattle.action.specs.Known.{actions}
+use Rattle.action.specs.Wait.{waitOf}
+use Rattle.action.specs.declared.names.Found.{Found}
+use Rattle.action.specs.declared.names.Found.the-variants as F
+
+unfoldable pub nameOf : ℕ → List ℕ
+nameOf n = bytes (actionOf n .name)
+
+unfoldable pub labelOf : ℕ → List ℕ
+labelOf n = bytes (actionOf n .label)
+
+-- a label that contains a space stands in quotes
+unfoldable pub quotedOf : List ℕ → List ℕ
+quotedOf label = cond (elem label 32) (bytes "\"" ++ (label ++ bytes "\"")) label
+
+abbrev pub waitTextOf : ℕ → List ℕ
+waitTextOf n = bytes " <wait." ++ ((48 + waitOf (attributesOf n)) ∷ bytes ">")
+
+-- /ac LABEL <wait.SECONDS>
+unfoldable pub macroOf : ℕ → List ℕ
+macroOf n = bytes "/ac " ++ (quotedOf (labelOf n) ++ waitTextOf n)
+
+-- the first action from k on, of `left`, whose name the word is
+unfoldable pub foundFrom : ℕ → ℕ → List ℕ → Found
+foundFrom zero k word = F.Nothing
+foundFrom (suc left) k word = cond (same (nameOf k) word) (F.Action k) (foundFrom left (suc k) word)
+
+-- the action whose name the word is
+unfoldable pub foundOf : List ℕ → Found
+foundOf word = foundFrom actions 0 word

@@ -1,0 +1,59 @@
+-- How the names and labels are kept as data: one run, and a key by which a word's only candidate is found.
+-- Assumes nothing.
+use mathlib.Core.Bool.{cond}
+use mathlib.Core.List.{List, [], _∷_, _++_}
+use Prim.Native.Nat.{ℕ, zero, suc, _+_, _*_, _%_}
+use Prim.Native.String.{String}
+use lib.Dec.{eqb}
+use lib.ListN.{length, getD}
+use Rattle.text.specs.Bytes.{bytes}
+use Rattle.action.specs.Table.{Action, table}
+use Rattle.action.specs.Known.{actions}
+use Rattle.action.specs.Names.{nameOf}
+
+abbrev pub namesOf : List Action → List String
+namesOf [] = []
+namesOf (a ∷ rest) = a .name ∷ namesOf rest
+
+abbrev pub labelsOf : List Action → List String
+labelsOf [] = []
+labelsOf (a ∷ rest) = a .label ∷ labelsOf rest
+
+-- the names, and the labels after them
+unfoldable pub texts : List String
+unfolding table
+texts = namesOf table ++ labelsOf table
+
+abbrev pub textCount : ℕ
+textCount = 62
+
+-- the text at a place of a list
+abbrev pub entry : List String → ℕ → String
+entry [] k = ""
+entry (s ∷ rest) zero = s
+entry (s ∷ rest) (suc k) = entry rest k
+
+unfoldable pub textOf : ℕ → List ℕ
+textOf k = bytes (entry texts k)
+
+-- ---- the key
+
+-- no name is shorter, and none is longer
+abbrev pub shortest : ℕ
+shortest = 7
+
+abbrev pub longest : ℕ
+longest = 24
+
+unfoldable pub keyOf : List ℕ → ℕ
+keyOf word = (getD word 0 0 + 8 * getD word 3 0 + 11 * length word) % 64
+
+-- the first action from n on, of `left`, whose name has the key
+unfoldable pub holder : ℕ → ℕ → ℕ → ℕ
+holder zero n key = n
+holder (suc left) n key = cond (eqb (keyOf (nameOf n)) key) n (holder left (suc n) key)
+
+-- the holder of each of `left` keys from `key` on
+unfoldable pub holders : ℕ → ℕ → List ℕ
+holders zero key = []
+holders (suc left) key = holder actions 0 key ∷ holders left (suc key)
