@@ -7,7 +7,7 @@ use native.Mathlib.Nat.{zero-add, add-zero, suc-add, add-suc}
 use native.Mathlib.Numerals.{add-one}
 use native.Mathlib.Omega.{arith}
 use lib.ListN.{length, set, take, drop, getD, drop-of-length-le, length-append}
-use lib.Seq.{sets, length-sets, sets-eq, drop-cons, take-append-seam}
+use lib.Seq.{sets, length-sets, sets-eq, drop-cons, take-append-seam, length-take-le}
 use Rattle.text.specs.Over.{over, Put}
 
 -- ---- the room after a store
@@ -78,3 +78,14 @@ pub take-put : {text out : List ℕ} {r : ℕ} {after : List ℕ} → Put out 0 
 take-put {text} {out} p h =
     let e : _ ≡ length text = p .next ∙ zero-add _ in
     rw (e, p .same) (ap (take (length text)) (over-is text out 0 (omega arith)) ∙ take-append-seam text _)
+
+-- a text rendered into a room of its own, and lent from there
+pub record Rendered (text : List ℕ) (k : ℕ) (room : List ℕ) : Type 0 where
+  pub same : take k room ≡ text
+  pub within : k ≤ length room
+  pub count : k ≡ length (take k room)
+
+pub rendered : {text out : List ℕ} {k : ℕ} {room : List ℕ} → Put out 0 text k room → length text ≤ length out → Rendered text k room
+rendered {text} {out} {k} {room} p h =
+    let within : k ≤ length room = omega (arith, p .next, ap length (p .same) ∙ length-over out 0 text) in
+    record { same = take-put p h; within = within; count = sym (length-take-le k room within) }

@@ -1,30 +1,19 @@
--- `action::macros::put_quoted_label` meets its contract: the label is read back from its room.
+-- `action::macros::put_quoted_label` meets its contract: the label is lent from a room of its own.
 -- Assumes nothing.
-use mathlib.Core.Path.{_≡_, sym, ap}
+use mathlib.Core.Path.{ap}
 use mathlib.Core.List.{List}
-use Prim.Native.Nat.{ℕ, _≤_}
+use Prim.Native.Nat.{ℕ}
 use native.Mathlib.Omega.{arith}
-use lib.ListN.{length, take}
-use lib.Seq.{length-take-le}
+use lib.ListN.{length}
 use borrow.Author.Needs.{needs}
-use Rattle.text.specs.OverLaws.{take-put, put-as}
+use Rattle.text.specs.OverLaws.{put-as, Rendered, rendered}
 use Rattle.action.specs.Names.{labelOf, quotedOf}
 use Rattle.action.specs.NameLaws.{label-short}
 use Rattle.action.proofs.macros.put_quoted_label.Statement.{statement}
 use Rattle.action.proofs.macros.put_quoted_label.Tie as tie
 
-module _ (c : tie.After-put-label) where
-  abbrev action : ℕ
-  action = c .before .before .before .args .n
-
-  fits : length (labelOf action) ≤ 18
-  fits = label-short action (c .before .before .before .pre .0)
-
-  written : take (c .put-label .result) (c .put-label .last .1 .0) ≡ labelOf action
-  written = take-put (c .put-label .ensures) fits
-
-  within : c .put-label .result ≤ length (c .put-label .last .1 .0)
-  within = omega (arith, c .put-label .ensures .next, fits, c .put-label .kept)
+lent : (c : tie.After-put-label) → Rendered (labelOf (c .before .before .before .args .n)) (c .put-label .result) (c .put-label .last .1 .0)
+lent c = rendered (c .put-label .ensures) (label-short _ (c .before .before .before .pre .0))
 
 pub put-quoted-label-spec : {M : Type 1} → statement M
 put-quoted-label-spec =
@@ -32,8 +21,8 @@ put-quoted-label-spec =
     (tie.spec
     (λ c. search needs)
     (λ c κs. (c .before .before .pre .0, omega (arith, label-short (c .before .before .args .n) (c .before .before .pre .0))))
-    (λ c. within (c .before))
-    (λ c. sym (length-take-le _ _ (within (c .before .before))))
-    (λ c κs. omega (arith, ap (λ (l : List ℕ). length (quotedOf l)) (written (c .before .before .before)), c .before .before .before .before .before .before .pre .1))
+    (λ c. lent (c .before) .within)
+    (λ c. lent (c .before .before) .count)
+    (λ c κs. omega (arith, ap (λ (l : List ℕ). length (quotedOf l)) (lent (c .before .before .before) .same), c .before .before .before .before .before .before .pre .1))
     (λ c. search needs)
-    (λ c. put-as (ap quotedOf (written (c .before .before .before .before .before .before))) (c .before .before .put-quoted .ensures)))
+    (λ c. put-as (ap quotedOf (lent (c .before .before .before .before .before .before) .same)) (c .before .before .put-quoted .ensures)))

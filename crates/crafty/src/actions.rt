@@ -1,0 +1,114 @@
+// The entries over single actions.
+ghost use Rattle.crafty.specs.Actions.{HasAttributes, HasPrice, HasWait, HasName, HasLabel, HasMacroText, FromName};
+use super::room::Written;
+use super::room::write;
+use action::Amount;
+use action::Attributes;
+use action::Combo;
+use action::Found;
+use refusal::Checked;
+use refusal::Refusal;
+
+// An action's attributes, or a refusal.
+pub enum Attributed {
+    Row(Attributes),
+    Refused(Refusal),
+}
+
+// An action's price, none where it has no cost, or a refusal.
+pub enum Priced {
+    Costs(Amount),
+    Refused(Refusal),
+}
+
+// An action's wait in seconds, or a refusal.
+pub enum Timed {
+    Seconds(u8),
+    Refused(Refusal),
+}
+
+// The action that a name names, or a refusal.
+pub enum Named {
+    Action(u8),
+    Refused(Refusal),
+}
+
+pub fn attributes(n: u8) -> Attributed
+    ensures { λ r. ⌜ HasAttributes n r ⌝ }
+{
+    let known = action::check_action(n);
+    if let Checked::Refused(x) = known {
+        return Attributed::Refused(x);
+    }
+    Attributed::Row(action::attributes_of(n))
+}
+
+// What the action costs on a combo.
+pub fn price(n: u8, combo: Combo) -> Priced
+    ensures { λ r. ⌜ HasPrice n combo r ⌝ }
+{
+    let known = action::check_action(n);
+    if let Checked::Refused(x) = known {
+        return Priced::Refused(x);
+    }
+    let row = action::attributes_of(n);
+    let cost = row.cp_cost;
+    Priced::Costs(action::charged(n, combo, cost))
+}
+
+pub fn wait(n: u8) -> Timed
+    ensures { λ r. ⌜ HasWait n r ⌝ }
+{
+    let known = action::check_action(n);
+    if let Checked::Refused(x) = known {
+        return Timed::Refused(x);
+    }
+    Timed::Seconds(action::wait(action::attributes_of(n)))
+}
+
+pub fn name(n: u8, out: &mut [u8]) -> Written
+    ensures { λ r. ⌜ HasName n (now (out .entry)) r (now (out .exit)) ⌝ }
+{
+    let known = action::check_action(n);
+    if let Checked::Refused(x) = known {
+        return Written::Refused(x);
+    }
+    let mut text = [0u8; 24];
+    let k = action::put_name(n, &mut text, 0);
+    write(&text[..k], out)
+}
+
+pub fn label(n: u8, out: &mut [u8]) -> Written
+    ensures { λ r. ⌜ HasLabel n (now (out .entry)) r (now (out .exit)) ⌝ }
+{
+    let known = action::check_action(n);
+    if let Checked::Refused(x) = known {
+        return Written::Refused(x);
+    }
+    let mut text = [0u8; 18];
+    let k = action::put_label(n, &mut text, 0);
+    write(&text[..k], out)
+}
+
+pub fn macro_text(n: u8, out: &mut [u8]) -> Written
+    ensures { λ r. ⌜ HasMacroText n (now (out .entry)) r (now (out .exit)) ⌝ }
+{
+    let known = action::check_action(n);
+    if let Checked::Refused(x) = known {
+        return Written::Refused(x);
+    }
+    let mut text = [0u8; 33];
+    let k = action::put_macro_text(n, &mut text, 0);
+    write(&text[..k], out)
+}
+
+// The whole buffer is the name.
+pub fn from_name(word: &[u8]) -> Named
+    ensures { λ r. ⌜ FromName (now (word .entry)) r ⌝ }
+{
+    let found = action::from_name(word);
+    let Found::Action(n) = found else {
+        return Named::Refused(Refusal::UnknownWord(0));
+    };
+    Named::Action(n)
+}
