@@ -1,4 +1,4 @@
--- Texts in one run, and where each starts: text k is the part of the run from start k to start k + 1.
+-- Texts in one run, and where each starts: entry k is the part of the run from start k to start k + 1.
 -- Assumes nothing.
 use mathlib.Core.Path.{_≡_}
 use mathlib.Core.Bool.{Bool, _&&_}
@@ -10,7 +10,7 @@ use lib.ListN.{length, take, drop, getD}
 use Rattle.laws.specs.Tests.{and-left, and-right}
 use Rattle.laws.specs.Same.{same, same→eq, below, below-at}
 use Rattle.text.specs.Bytes.{bytes}
-use Rattle.action.specs.Texts.{texts, textOf, textCount}
+use Rattle.action.specs.Texts.{texts, entryOf, entryCount}
 
 unfoldable pub run : List String → List ℕ
 run [] = []
@@ -27,11 +27,11 @@ start k = getD (starts 0 texts) k 0
 pub record Part (k : ℕ) : Type 0 where
   pub order : start k ≤ start (k + 1)
   pub within : start (k + 1) ≤ length (run texts)
-  pub part : take (start (k + 1) - start k) (drop (start k) (run texts)) ≡ textOf k
+  pub part : take (start (k + 1) - start k) (drop (start k) (run texts)) ≡ entryOf k
 
 -- the test of it, which antt computes
 abbrev right : ℕ → Bool
-right k = leb (start k) (start (k + 1)) && (leb (start (k + 1)) (length (run texts)) && same (take (start (k + 1) - start k) (drop (start k) (run texts))) (textOf k))
+right k = leb (start k) (start (k + 1)) && (leb (start (k + 1)) (length (run texts)) && same (take (start (k + 1) - start k) (drop (start k) (run texts))) (entryOf k))
 
 from-test : (k : ℕ) → T (right k) → Part k
 from-test k t =
@@ -42,6 +42,6 @@ from-test k t =
       part = same→eq _ _ (and-right (leb (start (k + 1)) (length (run texts))) _ a);
     }
 
-pub parts : (k : ℕ) → k < textCount → Part k
-unfolding run starts texts textOf
-parts k h = from-test k (below-at right textCount k h tt)
+pub parts : (k : ℕ) → k < entryCount → Part k
+unfolding run starts texts entryOf
+parts k h = from-test k (below-at right entryCount k h tt)

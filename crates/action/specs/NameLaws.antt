@@ -15,18 +15,20 @@ use Rattle.laws.specs.Lists.{elem}
 use Rattle.laws.specs.Same.{same, same→eq, same-refl, below, below-at}
 use Rattle.action.specs.Table.{actionOf}
 use Rattle.action.specs.Known.{actions}
-use Rattle.action.specs.Names.{nameOf, labelOf, quotedOf, macroOf, foundFrom, foundOf}
-use Rattle.action.specs.Texts.{texts, textOf, shortest, longest, keyOf, holder, holders}
+use Rattle.action.specs.Names.{nameOf, labelOf, quotedOf, macroOf, textOf, foundFrom, foundOf}
+use Rattle.action.specs.Texts.{texts, entryOf, shortest, longest, keyOf, holder, holders}
+use Rattle.action.specs.declared.texts.Text.{Text}
+use Rattle.action.specs.declared.texts.Text.the-variants as T
 use Rattle.action.specs.declared.names.Found.{Found}
 use Rattle.action.specs.declared.names.Found.the-variants as F
 
-pub name-text : (n : ℕ) → n < actions → textOf n ≡ nameOf n
-unfolding actionOf nameOf texts textOf
-name-text n h = same→eq _ _ (below-at (λ n. same (textOf n) (nameOf n)) actions n h tt)
+pub name-entry : (n : ℕ) → n < actions → entryOf n ≡ nameOf n
+unfolding actionOf nameOf texts entryOf
+name-entry n h = same→eq _ _ (below-at (λ n. same (entryOf n) (nameOf n)) actions n h tt)
 
-pub label-text : (n : ℕ) → n < actions → textOf (actions + n) ≡ labelOf n
-unfolding actionOf labelOf texts textOf
-label-text n h = same→eq _ _ (below-at (λ n. same (textOf (actions + n)) (labelOf n)) actions n h tt)
+pub label-entry : (n : ℕ) → n < actions → entryOf (actions + n) ≡ labelOf n
+unfolding actionOf labelOf texts entryOf
+label-entry n h = same→eq _ _ (below-at (λ n. same (entryOf (actions + n)) (labelOf n)) actions n h tt)
 
 pub name-long : (n : ℕ) → n < actions → shortest ≤ length (nameOf n)
 unfolding actionOf nameOf
@@ -44,9 +46,15 @@ pub macro-length : (n : ℕ) → length (macroOf n) ≡ length (quotedOf (labelO
 unfolding macroOf
 macro-length n = simp length-append (omega arith)
 
-pub macro-short : (n : ℕ) → n < actions → length (macroOf n) ≤ 33
+macro-short : (n : ℕ) → n < actions → length (macroOf n) ≤ 33
 unfolding actionOf labelOf quotedOf elem macroOf
 macro-short n h = leb→le _ _ (below-at (λ n. leb (length (macroOf n)) 33) actions n h tt)
+
+pub text-short : (which : Text) (n : ℕ) → n < actions → length (textOf which n) ≤ 33
+unfolding textOf
+text-short T.Name n h = omega (arith, name-short n h)
+text-short T.Label n h = omega (arith, label-short n h)
+text-short T.Macro n h = macro-short n h
 
 pub quoted-spaced : (label : List ℕ) → elem label 32 ≡ true → quotedOf label ≡ 34 ∷ (label ++ (34 ∷ []))
 unfolding quotedOf

@@ -10,6 +10,8 @@ use Rattle.laws.specs.Lists.{elem}
 use Rattle.action.specs.Table.{Action, table, actionOf, attributesOf}
 use Rattle.action.specs.Known.{actions}
 use Rattle.action.specs.Wait.{waitOf}
+use Rattle.action.specs.declared.texts.Text.{Text}
+use Rattle.action.specs.declared.texts.Text.the-variants as T
 use Rattle.action.specs.declared.names.Found.{Found}
 use Rattle.action.specs.declared.names.Found.the-variants as F
 
@@ -29,6 +31,11 @@ waitTextOf n = bytes " <wait." ++ ((48 + waitOf (attributesOf n)) ∷ bytes ">")
 -- /ac LABEL <wait.SECONDS>
 unfoldable pub macroOf : ℕ → List ℕ
 macroOf n = bytes "/ac " ++ (quotedOf (labelOf n) ++ waitTextOf n)
+
+unfoldable pub textOf : Text → ℕ → List ℕ
+textOf T.Name n = nameOf n
+textOf T.Label n = labelOf n
+textOf T.Macro n = macroOf n
 
 -- the first action from k on, of `left`, whose name the word is
 unfoldable pub foundFrom : ℕ → ℕ → List ℕ → Found

@@ -24,8 +24,8 @@ unfoldable pub texts : List String
 unfolding table
 texts = namesOf table ++ labelsOf table
 
-abbrev pub textCount : ℕ
-textCount = 62
+abbrev pub entryCount : ℕ
+entryCount = 62
 
 -- the text at a place of a list
 abbrev pub entry : List String → ℕ → String
@@ -33,8 +33,8 @@ entry [] k = ""
 entry (s ∷ rest) zero = s
 entry (s ∷ rest) (suc k) = entry rest k
 
-unfoldable pub textOf : ℕ → List ℕ
-textOf k = bytes (entry texts k)
+unfoldable pub entryOf : ℕ → List ℕ
+entryOf k = bytes (entry texts k)
 
 -- ---- the key
 

@@ -1,11 +1,11 @@
 // The 31 actions of action.rs by number: attributes, prices, gains, waits and text.
 mod gain;
 mod known;
-mod macros;
 mod names;
 mod numbers;
 mod price;
 mod table;
+mod texts;
 mod waits;
 mod wear;
 
@@ -13,7 +13,6 @@ pub use gain::calc_progress_increase;
 pub use gain::calc_quality_increase;
 pub use known::check_action;
 pub use known::check_list;
-pub use macros::put_macro_text;
 pub use names::Found;
 pub use names::from_name;
 pub use names::put_label;
@@ -25,5 +24,7 @@ pub use price::charged;
 pub use table::Amount;
 pub use table::Attributes;
 pub use table::attributes_of;
+pub use texts::Text;
+pub use texts::put_text;
 pub use waits::wait;
 pub use wear::calc_durability_cost;

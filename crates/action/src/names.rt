@@ -6,7 +6,7 @@ ghost use Rattle.text.specs.Over.{Put};
 ghost use Rattle.laws.specs.Same.{same as Same·same};
 ghost use Rattle.action.specs.Known.{actions};
 ghost use Rattle.action.specs.Names.{nameOf, labelOf, foundOf};
-ghost use Rattle.action.specs.Texts.{textOf, textCount, shortest, longest, keyOf};
+ghost use Rattle.action.specs.Texts.{entryOf, entryCount, shortest, longest, keyOf};
 use super::numbers::ACTIONS;
 
 // The names in one run, a line for each, and the labels after them.
@@ -73,7 +73,7 @@ const TEXTS: [u8; 837] = *b"BasicSynthesis\
     Immaculate Mend\
     Trained Perfection";
 
-// Where each text starts in the run: name n is text n, label n is text 31 + n.
+// Where each starts in the run: name n is entry n, label n is entry 31 + n.
 const STARTS: [usize; 63] = [
     0,
     14,
@@ -140,10 +140,10 @@ const STARTS: [usize; 63] = [
     837,
 ];
 
-// Stores text k of the run.
-fn put_text(k: usize, out: &mut [u8], at: usize) -> usize
-    requires { ⌜ (k < textCount) × (at + length (textOf k) ≤ length (now out)) ⌝ }
-    ensures { λ r. ⌜ Put (now (out .entry)) at (textOf k) r (now (out .exit)) ⌝ }
+// Stores entry k of the run.
+fn put_entry(k: usize, out: &mut [u8], at: usize) -> usize
+    requires { ⌜ (k < entryCount) × (at + length (entryOf k) ≤ length (now out)) ⌝ }
+    ensures { λ r. ⌜ Put (now (out .entry)) at (entryOf k) r (now (out .exit)) ⌝ }
 {
     let start = STARTS[k];
     let end = STARTS[k + 1];
@@ -154,14 +154,14 @@ pub fn put_name(n: u8, out: &mut [u8], at: usize) -> usize
     requires { ⌜ (n < actions) × (at + length (nameOf n) ≤ length (now out)) ⌝ }
     ensures { λ r. ⌜ Put (now (out .entry)) at (nameOf n) r (now (out .exit)) ⌝ }
 {
-    put_text(n as usize, out, at)
+    put_entry(n as usize, out, at)
 }
 
 pub fn put_label(n: u8, out: &mut [u8], at: usize) -> usize
     requires { ⌜ (n < actions) × (at + length (labelOf n) ≤ length (now out)) ⌝ }
     ensures { λ r. ⌜ Put (now (out .entry)) at (labelOf n) r (now (out .exit)) ⌝ }
 {
-    put_text(ACTIONS as usize + n as usize, out, at)
+    put_entry(ACTIONS as usize + n as usize, out, at)
 }
 
 // The action whose name a word is.

@@ -9,13 +9,14 @@ use Rattle.refusal.specs.declared.Refusal.the-variants.{UnknownWord}
 use Rattle.refusal.specs.Report.{reportOf, success}
 use Rattle.refusal.specs.Judge.{Kind, Test, Says}
 use Rattle.action.specs.declared.price.Combo.{Combo}
+use Rattle.action.specs.declared.texts.Text.{Text}
 use Rattle.action.specs.declared.names.Found.{Found}
 use Rattle.action.specs.declared.names.Found.the-variants as F
 use Rattle.action.specs.Known.{actionTest}
 use Rattle.action.specs.Table.{attributesOf}
 use Rattle.action.specs.Price.{chargedOf}
 use Rattle.action.specs.Wait.{waitOf}
-use Rattle.action.specs.Names.{nameOf, labelOf, macroOf, foundOf}
+use Rattle.action.specs.Names.{textOf, foundOf}
 use Rattle.crafty.specs.Room.{WritesText}
 use Rattle.crafty.specs.declared.room.Written.{Written}
 use Rattle.crafty.specs.declared.actions.Attributed.{Attributed}
@@ -68,14 +69,9 @@ HasPrice n combo r = Says priced (actionTest n ∷ []) (P.Costs (chargedOf n com
 abbrev pub HasWait : ℕ → Timed → Type 0
 HasWait n r = Says timed (actionTest n ∷ []) (T.Seconds (waitOf (attributesOf n))) r
 
-abbrev pub HasName : ℕ → List ℕ → Written → List ℕ → Type 0
-HasName n out r after = WritesText (actionTest n ∷ []) (nameOf n) out r after
-
-abbrev pub HasLabel : ℕ → List ℕ → Written → List ℕ → Type 0
-HasLabel n out r after = WritesText (actionTest n ∷ []) (labelOf n) out r after
-
-abbrev pub HasMacroText : ℕ → List ℕ → Written → List ℕ → Type 0
-HasMacroText n out r after = WritesText (actionTest n ∷ []) (macroOf n) out r after
+-- its name, its label or its macro text
+abbrev pub HasText : Text → ℕ → List ℕ → Written → List ℕ → Type 0
+HasText which n out r after = WritesText (actionTest n ∷ []) (textOf which n) out r after
 
 abbrev isFound : Found → Bool
 isFound (F.Action n) = true

@@ -1,11 +1,12 @@
 // The entries over single actions.
-ghost use Rattle.crafty.specs.Actions.{HasAttributes, HasPrice, HasWait, HasName, HasLabel, HasMacroText, FromName};
+ghost use Rattle.crafty.specs.Actions.{HasAttributes, HasPrice, HasWait, HasText, FromName};
 use super::room::Written;
 use super::room::write;
 use action::Amount;
 use action::Attributes;
 use action::Combo;
 use action::Found;
+use action::Text;
 use refusal::Checked;
 use refusal::Refusal;
 
@@ -66,40 +67,35 @@ pub fn wait(n: u8) -> Timed
     Timed::Seconds(action::wait(action::attributes_of(n)))
 }
 
-pub fn name(n: u8, out: &mut [u8]) -> Written
-    ensures { λ r. ⌜ HasName n (now (out .entry)) r (now (out .exit)) ⌝ }
+// A text of an action: rendered into a room of its own, which is always enough, and then written.
+fn text_of(which: Text, n: u8, out: &mut [u8]) -> Written
+    ensures { λ r. ⌜ HasText which n (now (out .entry)) r (now (out .exit)) ⌝ }
 {
     let known = action::check_action(n);
     if let Checked::Refused(x) = known {
         return Written::Refused(x);
     }
-    let mut text = [0u8; 24];
-    let k = action::put_name(n, &mut text, 0);
-    write(&text[..k], out)
+    let mut room = [0u8; 33];
+    let k = action::put_text(which, n, &mut room, 0);
+    write(&room[..k], out)
+}
+
+pub fn name(n: u8, out: &mut [u8]) -> Written
+    ensures { λ r. ⌜ HasText Text.Name n (now (out .entry)) r (now (out .exit)) ⌝ }
+{
+    text_of(Text::Name, n, out)
 }
 
 pub fn label(n: u8, out: &mut [u8]) -> Written
-    ensures { λ r. ⌜ HasLabel n (now (out .entry)) r (now (out .exit)) ⌝ }
+    ensures { λ r. ⌜ HasText Text.Label n (now (out .entry)) r (now (out .exit)) ⌝ }
 {
-    let known = action::check_action(n);
-    if let Checked::Refused(x) = known {
-        return Written::Refused(x);
-    }
-    let mut text = [0u8; 18];
-    let k = action::put_label(n, &mut text, 0);
-    write(&text[..k], out)
+    text_of(Text::Label, n, out)
 }
 
 pub fn macro_text(n: u8, out: &mut [u8]) -> Written
-    ensures { λ r. ⌜ HasMacroText n (now (out .entry)) r (now (out .exit)) ⌝ }
+    ensures { λ r. ⌜ HasText Text.Macro n (now (out .entry)) r (now (out .exit)) ⌝ }
 {
-    let known = action::check_action(n);
-    if let Checked::Refused(x) = known {
-        return Written::Refused(x);
-    }
-    let mut text = [0u8; 33];
-    let k = action::put_macro_text(n, &mut text, 0);
-    write(&text[..k], out)
+    text_of(Text::Macro, n, out)
 }
 
 // The whole buffer is the name.

@@ -7,7 +7,7 @@ use native.Mathlib.Omega.{arith}
 use borrow.Author.Needs.{needs}
 use Rattle.laws.specs.Same.{same, same-is}
 use Rattle.action.specs.Texts.{texts}
-use Rattle.action.specs.NameLaws.{name-text}
+use Rattle.action.specs.NameLaws.{name-entry}
 use Rattle.action.proofs.Run.{Part, run, starts, parts}
 use Rattle.action.proofs.names.is_name.Statement.{statement}
 use Rattle.action.proofs.names.is_name.Tie as tie
@@ -31,4 +31,4 @@ is-name-spec =
     (λ c κs. search needs)
     (λ c.
     let k = c .before .before .before .before in
-    same-is _ _ _ (c .same .ensures .0) (c .same .ensures .1) ∙ ap (λ (w : List ℕ). same w (k .args .word .now)) (part k .part ∙ name-text (k .args .n) (k .pre))))
+    same-is _ _ _ (c .same .ensures .0) (c .same .ensures .1) ∙ ap (λ (w : List ℕ). same w (k .args .word .now)) (part k .part ∙ name-entry (k .args .n) (k .pre))))

@@ -1,11 +1,11 @@
--- `action::names::put_label` meets its contract: label n is text 31 + n.
+-- `action::names::put_label` meets its contract: label n is entry 31 + n.
 -- Assumes nothing.
 use mathlib.Core.Path.{sym, ap}
 use native.Mathlib.Omega.{arith}
 use lib.ListN.{length}
 use borrow.Author.Needs.{needs}
 use Rattle.text.specs.OverLaws.{put-as}
-use Rattle.action.specs.NameLaws.{label-text}
+use Rattle.action.specs.NameLaws.{label-entry}
 use Rattle.action.proofs.names.put_label.Statement.{statement}
 use Rattle.action.proofs.names.put_label.Tie as tie
 
@@ -15,6 +15,6 @@ put-label-spec =
     (tie.spec
     (λ c. search needs)
     (λ c. search needs)
-    (λ c κs. omega (arith, c .before .before .pre, ap length (label-text (c .before .before .args .n) (c .before .before .pre .0))))
+    (λ c κs. omega (arith, c .before .before .pre, ap length (label-entry (c .before .before .args .n) (c .before .before .pre .0))))
     (λ c. search needs)
-    (λ c. put-as (label-text _ (c .before .before .before .before .before .pre .0)) (c .before .before .put-text .ensures)))
+    (λ c. put-as (label-entry _ (c .before .before .before .before .before .pre .0)) (c .before .before .put-entry .ensures)))

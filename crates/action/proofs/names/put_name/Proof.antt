@@ -1,11 +1,11 @@
--- `action::names::put_name` meets its contract: name n is text n.
+-- `action::names::put_name` meets its contract: name n is entry n.
 -- Assumes nothing.
 use mathlib.Core.Path.{sym, ap}
 use native.Mathlib.Omega.{arith}
 use lib.ListN.{length}
 use borrow.Author.Needs.{needs}
 use Rattle.text.specs.OverLaws.{put-as}
-use Rattle.action.specs.NameLaws.{name-text}
+use Rattle.action.specs.NameLaws.{name-entry}
 use Rattle.action.proofs.names.put_name.Statement.{statement}
 use Rattle.action.proofs.names.put_name.Tie as tie
 
@@ -13,6 +13,6 @@ pub put-name-spec : {M : Type 1} → statement M
 put-name-spec =
     tie.close
     (tie.spec
-    (λ c κs. omega (arith, c .before .before .pre, ap length (name-text (c .before .before .args .n) (c .before .before .pre .0))))
+    (λ c κs. omega (arith, c .before .before .pre, ap length (name-entry (c .before .before .args .n) (c .before .before .pre .0))))
     (λ c. search needs)
-    (λ c. put-as (name-text _ (c .before .before .before .before .before .pre .0)) (c .before .before .put-text .ensures)))
+    (λ c. put-as (name-entry _ (c .before .before .before .before .before .pre .0)) (c .before .before .put-entry .ensures)))

@@ -17,5 +17,5 @@ attributes-spec =
     (λ c. search needs)
     (λ c κs. tt)
     (λ c.
-      let k = c .before in
-      onward (k .before .before .check-action .ensures) (k .enum-told .given .1) (answered refl (ap Row (c .attributes-of .ensures)))))
+    let k = c .before in
+    onward (k .before .before .check-action .ensures) (k .enum-told .given .1) (answered refl (ap Row (c .attributes-of .ensures)))))

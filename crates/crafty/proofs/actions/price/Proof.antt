@@ -18,5 +18,5 @@ price-spec =
     (λ c κs. tt)
     (λ c κs. tt)
     (λ c.
-      let k = c .before .before in
-      onward (k .before .before .check-action .ensures) (k .enum-told .given .1) (answered refl (ap Costs (c .charged .ensures ∙ rw (c .before .attributes-of .ensures))))))
+    let k = c .before .before in
+    onward (k .before .before .check-action .ensures) (k .enum-told .given .1) (answered refl (ap Costs (c .charged .ensures ∙ rw (c .before .attributes-of .ensures))))))

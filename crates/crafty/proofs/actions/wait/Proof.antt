@@ -19,5 +19,5 @@ wait-spec =
     (λ c κs. tt)
     (λ c κs. tt)
     (λ c.
-      let k = c .before .before in
-      onward (k .before .before .check-action .ensures) (k .enum-told .given .1) (answered refl (ap Seconds (c .wait .ensures .0 ∙ ap waitOf (c .before .attributes-of .ensures))))))
+    let k = c .before .before in
+    onward (k .before .before .check-action .ensures) (k .enum-told .given .1) (answered refl (ap Seconds (c .wait .ensures .0 ∙ ap waitOf (c .before .attributes-of .ensures))))))

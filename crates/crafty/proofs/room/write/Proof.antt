@@ -25,6 +25,6 @@ write-spec =
     (λ c κs. omega (arith, fits (c .before)))
     (λ c. search needs)
     (λ c.
-      let k = c .before .before .before .before in
-      let p = c .before .before .put .ensures in
-      onward-room (k .before .before .check-room .ensures) (k .enum-told .given .1) (answered-room refl (ap Length (p .next ∙ zero-add _)) (p .same))))
+    let k = c .before .before .before .before in
+    let p = c .before .before .put .ensures in
+    onward-room (k .before .before .check-room .ensures) (k .enum-told .given .1) (answered-room refl (ap Length (p .next ∙ zero-add _)) (p .same))))

@@ -1,4 +1,4 @@
--- `action::macros::put_quoted` meets its contract: a quote, the label and a quote, or the label alone.
+-- `action::texts::put_quoted` meets its contract: a quote, the label and a quote, or the label alone.
 -- Assumes nothing.
 use mathlib.Core.Path.{_≡_, sym, ap, _∙_}
 use mathlib.Core.List.{[], _∷_, _++_}
@@ -9,8 +9,8 @@ use borrow.Author.Needs.{needs}
 use Rattle.text.specs.OverLaws.{then, put-as}
 use Rattle.action.specs.Names.{quotedOf}
 use Rattle.action.specs.NameLaws.{quoted-spaced, quoted-plain}
-use Rattle.action.proofs.macros.put_quoted.Statement.{statement}
-use Rattle.action.proofs.macros.put_quoted.Tie as tie
+use Rattle.action.proofs.texts.put_quoted.Statement.{statement}
+use Rattle.action.proofs.texts.put_quoted.Tie as tie
 
 quotes : (c : tie.Then1) → quotedOf (c .before .before .before .before .args .label .now) ≡ 34 ∷ (c .before .before .before .before .args .label .now ++ (34 ∷ []))
 quotes c = quoted-spaced _ (sym (c .before .spaced .ensures) ∙ c .if1 .taken)

@@ -1,4 +1,4 @@
--- `action::macros::put_wait` meets its contract.
+-- `action::texts::put_wait` meets its contract.
 -- Assumes nothing.
 use mathlib.Core.Path.{_≡_, ap, _∙_}
 use mathlib.Core.List.{List, [], _∷_}
@@ -7,8 +7,8 @@ use borrow.Author.Needs.{needs}
 use Rattle.text.specs.OverLaws.{then, put-as}
 use Rattle.action.specs.Wait.{waitOf}
 use Rattle.action.specs.Table.{attributesOf}
-use Rattle.action.proofs.macros.put_wait.Statement.{statement}
-use Rattle.action.proofs.macros.put_wait.Tie as tie
+use Rattle.action.proofs.texts.put_wait.Statement.{statement}
+use Rattle.action.proofs.texts.put_wait.Tie as tie
 
 -- the digit is the action's
 digit : (c : tie.After-wait) → (48 + c .wait .result) ∷ [] ≡ (48 + waitOf (attributesOf (c .before .before .before .args .n))) ∷ []

@@ -1,4 +1,4 @@
--- `action::names::put_text` meets its contract: the part of the run from its start to the next is the text.
+-- `action::names::put_entry` meets its contract: the part of the run from its start to the next is the entry.
 -- Assumes nothing.
 use mathlib.Core.Path.{ap}
 use native.Mathlib.Omega.{arith}
@@ -7,15 +7,15 @@ use borrow.Author.Needs.{needs}
 use Rattle.text.specs.OverLaws.{put-as}
 use Rattle.action.specs.Texts.{texts}
 use Rattle.action.proofs.Run.{Part, run, starts, parts}
-use Rattle.action.proofs.names.put_text.Statement.{statement}
-use Rattle.action.proofs.names.put_text.Tie as tie
+use Rattle.action.proofs.names.put_entry.Statement.{statement}
+use Rattle.action.proofs.names.put_entry.Tie as tie
 
 part : (c : tie.Start) → Part (c .args .k)
 part c = parts (c .args .k) (c .pre .0)
 
-pub put-text-spec : {M : Type 1} → statement M
+pub put-entry-spec : {M : Type 1} → statement M
 unfolding run starts texts
-put-text-spec =
+put-entry-spec =
     tie.close
     (tie.spec
     (λ c. search needs)

@@ -1,4 +1,4 @@
--- `action::macros::put_macro_text` meets its contract.
+-- `action::texts::put_macro_text` meets its contract.
 -- Assumes nothing.
 use mathlib.Core.Path.{sym}
 use native.Mathlib.Omega.{arith}
@@ -6,8 +6,8 @@ use borrow.Author.Needs.{needs}
 use Rattle.text.specs.OverLaws.{then}
 use Rattle.action.specs.Names.{macroOf}
 use Rattle.action.specs.NameLaws.{macro-length}
-use Rattle.action.proofs.macros.put_macro_text.Statement.{statement}
-use Rattle.action.proofs.macros.put_macro_text.Tie as tie
+use Rattle.action.proofs.texts.put_macro_text.Statement.{statement}
+use Rattle.action.proofs.texts.put_macro_text.Tie as tie
 
 pub put-macro-text-spec : {M : Type 1} → statement M
 unfolding macroOf

@@ -1,4 +1,4 @@
--- `action::macros::put_quoted_label` meets its contract: the label is lent from a room of its own.
+-- `action::texts::put_quoted_label` meets its contract: the label is lent from a room of its own.
 -- Assumes nothing.
 use mathlib.Core.Path.{ap}
 use mathlib.Core.List.{List}
@@ -9,8 +9,8 @@ use borrow.Author.Needs.{needs}
 use Rattle.text.specs.OverLaws.{put-as, Rendered, rendered}
 use Rattle.action.specs.Names.{labelOf, quotedOf}
 use Rattle.action.specs.NameLaws.{label-short}
-use Rattle.action.proofs.macros.put_quoted_label.Statement.{statement}
-use Rattle.action.proofs.macros.put_quoted_label.Tie as tie
+use Rattle.action.proofs.texts.put_quoted_label.Statement.{statement}
+use Rattle.action.proofs.texts.put_quoted_label.Tie as tie
 
 lent : (c : tie.After-put-label) → Rendered (labelOf (c .before .before .before .args .n)) (c .put-label .result) (c .put-label .last .1 .0)
 lent c = rendered (c .put-label .ensures) (label-short _ (c .before .before .before .pre .0))

@@ -1,12 +1,13 @@
-// The line of a macro that uses an action.
+// The texts of an action: its name, its label, and the line of a macro that uses it.
 ghost use mathlib.Core.Path.{_≡_};
 ghost use Prim.Native.Nat.{_+_, _≤_, _<_};
 ghost use lib.ListN.{length};
 ghost use Rattle.laws.specs.Lists.{elem};
 ghost use Rattle.text.specs.Over.{Put};
 ghost use Rattle.action.specs.Known.{actions};
-ghost use Rattle.action.specs.Names.{labelOf, quotedOf, waitTextOf, macroOf};
+ghost use Rattle.action.specs.Names.{labelOf, quotedOf, waitTextOf, macroOf, textOf};
 use super::names::put_label;
+use super::names::put_name;
 use super::table::attributes_of;
 use super::waits::wait;
 
@@ -56,11 +57,28 @@ fn put_wait(n: u8, out: &mut [u8], at: usize) -> usize
     text::put_byte(out, end, b'>')
 }
 
-pub fn put_macro_text(n: u8, out: &mut [u8], at: usize) -> usize
+fn put_macro_text(n: u8, out: &mut [u8], at: usize) -> usize
     requires { ⌜ (n < actions) × (at + length (macroOf n) ≤ length (now out)) ⌝ }
     ensures { λ r. ⌜ Put (now (out .entry)) at (macroOf n) r (now (out .exit)) ⌝ }
 {
     let label = text::put(out, at, b"/ac ");
     let end = put_quoted_label(n, out, label);
     put_wait(n, out, end)
+}
+
+pub enum Text {
+    Name,
+    Label,
+    Macro,
+}
+
+pub fn put_text(which: Text, n: u8, out: &mut [u8], at: usize) -> usize
+    requires { ⌜ (n < actions) × (at + length (textOf which n) ≤ length (now out)) ⌝ }
+    ensures { λ r. ⌜ Put (now (out .entry)) at (textOf which n) r (now (out .exit)) ⌝ }
+{
+    match which {
+        Text::Name => put_name(n, out, at),
+        Text::Label => put_label(n, out, at),
+        Text::Macro => put_macro_text(n, out, at),
+    }
 }

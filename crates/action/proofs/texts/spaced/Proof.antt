@@ -1,12 +1,12 @@
--- `action::macros::spaced` meets its contract: no space stands before place i.
+-- `action::texts::spaced` meets its contract: no space stands before place i.
 -- Assumes nothing.
 use mathlib.Core.Path.{_≡_, refl, sym, _∙_}
 use Prim.Native.Nat.{_-_}
 use native.Mathlib.Omega.{arith}
 use lib.ListN.{length, drop}
 use Rattle.laws.specs.Lists.{elem, elem-here, elem-later, elem-end}
-use Rattle.action.proofs.macros.spaced.Statement.{statement}
-use Rattle.action.proofs.macros.spaced.Tie as tie
+use Rattle.action.proofs.texts.spaced.Statement.{statement}
+use Rattle.action.proofs.texts.spaced.Tie as tie
 
 abbrev Inv-loop : tie.InvT-loop
 Inv-loop text i₀ i = elem (drop i text) 32 ≡ elem text 32
