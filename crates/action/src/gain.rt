@@ -5,8 +5,8 @@ ghost use Prim.Native.Nat.{_≤_};
 ghost use lib.Dec.{ltb};
 ghost use Rattle.action.specs.Gain.{multiplierOf, efficiencyOf, progressGainOf, touchGainOf, qualityGainOf, Touchable};
 ghost use Rattle.action.specs.Limits.{factorMost, progressMost, qualityMost, quietMost, gainMost};
-use super::numbers::BYREGOTS_BLESSING;
-use super::numbers::TRAINED_EYE;
+use super::BYREGOTS_BLESSING;
+use super::TRAINED_EYE;
 
 // So much more while a buff lasts.
 fn extra(buff: u8, more: u64) -> u64

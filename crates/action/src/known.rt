@@ -2,7 +2,7 @@
 ghost use mathlib.Core.Path.{_≡_};
 ghost use Rattle.refusal.specs.Judge.{checkedOf};
 ghost use Rattle.action.specs.Known.{actionTest, listTest};
-use super::numbers::ACTIONS;
+use super::ACTIONS;
 use refusal::Checked;
 use refusal::Refusal;
 

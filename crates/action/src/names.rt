@@ -7,7 +7,7 @@ ghost use Rattle.laws.specs.Same.{same as Same·same};
 ghost use Rattle.action.specs.Known.{actions};
 ghost use Rattle.action.specs.Names.{nameOf, labelOf, foundOf};
 ghost use Rattle.action.specs.Texts.{entryOf, entryCount, shortest, longest, keyOf};
-use super::numbers::ACTIONS;
+use super::ACTIONS;
 
 // The names in one run, a line for each, and the labels after them.
 const TEXTS: [u8; 837] = *b"BasicSynthesis\

@@ -1,8 +1,8 @@
 // What an action costs in points, by the combo that it continues.
 ghost use mathlib.Core.Path.{_≡_};
 ghost use Rattle.action.specs.Price.{discountedBy, priceOf, chargedOf};
-use super::numbers::ADVANCED_TOUCH;
-use super::numbers::STANDARD_TOUCH;
+use super::ADVANCED_TOUCH;
+use super::STANDARD_TOUCH;
 use super::table::Amount;
 
 // The combo that a state holds: the action before, where it opens one.

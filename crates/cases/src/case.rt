@@ -1,0 +1,57 @@
+// The line of a case: its kind in two digits, eight numbers of ten digits, and 36 bytes of text.
+ghost use Prim.Native.Nat.{_≤_, _<_};
+
+const TEXT: usize = 91;
+
+const TEXT_ROOM: usize = 36;
+
+fn digit(line: &[u8], at: usize) -> u64
+    ensures { λ r. ⌜ r < 10 ⌝ }
+{
+    if at < line.len() {
+        let b = line[at];
+        if b >= b'0' {
+            if b <= b'9' {
+                return (b - b'0') as u64;
+            }
+        }
+    }
+    0
+}
+
+pub fn kind(line: &[u8]) -> u64 {
+    digit(line, 0) * 10 + digit(line, 1)
+}
+
+// Number i of the line, 0 to 7.
+pub fn number(line: &[u8], i: usize) -> u32
+    requires { ⌜ i < 8 ⌝ }
+{
+    let start = 3 + 11 * i;
+    let mut value: u64 = 0;
+    let mut k = 0;
+    while k < 10 {
+        value = value % 1000000000 * 10 + digit(line, start + k);
+        k += 1;
+    }
+    (value % 0x1_0000_0000) as u32
+}
+
+// Number i as the number of an action: a byte.
+pub fn action(line: &[u8], i: usize) -> u8
+    requires { ⌜ i < 8 ⌝ }
+{
+    (number(line, i) % 256) as u8
+}
+
+// The text: its length is the first number.
+pub fn text(line: &[u8]) -> &[u8] {
+    let length = number(line, 0) as usize;
+    if line.len() < TEXT + TEXT_ROOM {
+        return line;
+    }
+    if length > TEXT_ROOM {
+        return line;
+    }
+    &line[TEXT..TEXT + length]
+}

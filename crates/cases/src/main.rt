@@ -1,0 +1,46 @@
+// Answers the cases of compare/ on standard input, a line for each: docs/COMPARISON.md has their form.
+use libc::STDIN_FILENO;
+
+mod case;
+mod inner;
+mod of_actions;
+mod of_sets;
+mod say;
+
+const WIDTH: usize = 128;
+
+const BLOCK: usize = 12800;
+
+fn answer(line: &[u8]) {
+    let kind = case::kind(line);
+    match kind {
+        1..=7 => of_actions::answer(kind, line),
+        8..=17 => of_sets::answer(kind, line),
+        _ => inner::answer(kind, line),
+    }
+    say::text(b"\n");
+}
+
+fn answer_all(lines: &[u8]) {
+    let mut left = lines.len() / WIDTH;
+    let mut at = 0;
+    while left > 0 {
+        answer(&lines[at..at + WIDTH]);
+        at += WIDTH;
+        left -= 1;
+    }
+}
+
+// Blocks of a hundred cases, up to a hundred million cases.
+fn main() {
+    let mut block = [0u8; BLOCK];
+    let mut blocks: u32 = 1000000;
+    while blocks > 0 {
+        let got = io::read_full(STDIN_FILENO, &mut block);
+        answer_all(&block[..got]);
+        if got < BLOCK {
+            return;
+        }
+        blocks -= 1;
+    }
+}

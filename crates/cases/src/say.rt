@@ -1,0 +1,42 @@
+// Words of an answer on standard output.
+use crafty::Also;
+use crafty::Amount;
+use crafty::Refusal;
+use libc::STDOUT_FILENO;
+
+pub fn text(bytes: &[u8]) {
+    io::write_all(STDOUT_FILENO, bytes);
+}
+
+pub fn number(n: u64) {
+    io::print_decimal(STDOUT_FILENO, n);
+}
+
+pub fn amount(a: Amount) {
+    match a {
+        Amount::Of(n) => number(n as u64),
+        Amount::Nothing => text(b"-"),
+    }
+}
+
+pub fn yes(b: bool) {
+    if b {
+        text(b"yes");
+    } else {
+        text(b"no");
+    }
+}
+
+pub fn refused(x: Refusal) {
+    let report = x.reported();
+    text(b"refused ");
+    number(report.0 as u64);
+    let also = report.1;
+    match also {
+        Also::Value(v) => {
+            text(b" ");
+            number(v as u64);
+        }
+        Also::Nothing => {}
+    }
+}
