@@ -1,4 +1,4 @@
-//! The line of a case; its layout and the kinds stand in compare/README.md.
+//! The line of a case; its layout and the kinds stand in docs/COMPARISON.md.
 
 pub const WIDTH: usize = 128;
 pub const LAST_KIND: u8 = 20;

@@ -48,7 +48,12 @@ fn progress_increase(line: &[u8]) {
         outside();
         return;
     }
-    let gain = action::calc_progress_increase(base, efficiency, veneration as u8, muscle_memory as u8);
+    let gain = action::calc_progress_increase(
+        base,
+        efficiency,
+        veneration as u8,
+        muscle_memory as u8,
+    );
     say::number(gain as u64);
 }
 
@@ -88,7 +93,15 @@ fn quality_increase(line: &[u8]) {
         outside();
         return;
     }
-    let gain = action::calc_quality_increase(n as u8, missing, base, efficiency, inner_quiet as u8, innovation as u8, great_strides as u8);
+    let gain = action::calc_quality_increase(
+        n as u8,
+        missing,
+        base,
+        efficiency,
+        inner_quiet as u8,
+        innovation as u8,
+        great_strides as u8,
+    );
     say::number(gain as u64);
 }
 
@@ -113,7 +126,12 @@ fn durability_cost(line: &[u8]) {
         outside();
         return;
     }
-    let cost = action::calc_durability_cost(base, perfection == ACTIVE, waste_not as u8, waste_not_ii as u8);
+    let cost = action::calc_durability_cost(
+        base,
+        perfection == ACTIVE,
+        waste_not as u8,
+        waste_not_ii as u8,
+    );
     say::number(cost as u64);
 }
 

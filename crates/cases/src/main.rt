@@ -9,7 +9,8 @@ mod say;
 
 const WIDTH: usize = 128;
 
-const BLOCK: usize = 12800;
+// A whole number of lines.
+const BLOCK: usize = 4096;
 
 fn answer(line: &[u8]) {
     let kind = case::kind(line);
@@ -31,10 +32,10 @@ fn answer_all(lines: &[u8]) {
     }
 }
 
-// Blocks of a hundred cases, up to a hundred million cases.
+// Block after block, up to a hundred million lines.
 fn main() {
-    let mut block = [0u8; BLOCK];
-    let mut blocks: u32 = 1000000;
+    let mut block = io::buffer();
+    let mut blocks: u32 = 3125000;
     while blocks > 0 {
         let got = io::read_full(STDIN_FILENO, &mut block);
         answer_all(&block[..got]);

@@ -67,18 +67,21 @@ fn written(kind: u64, n: u8, room: &mut [u8]) -> Written {
     }
 }
 
-fn text(kind: u64, n: u8, size: usize) {
-    let mut room = [DOT; 64];
-    if size > 64 {
-        return;
-    }
-    let answer = written(kind, n, &mut room[..size]);
+fn in_room(kind: u64, n: u8, room: &mut [u8]) {
+    let answer = written(kind, n, room);
     match answer {
         Written::Length(k) => say::number(k as u64),
         Written::Refused(x) => say::refused(x),
     }
     say::text(b" ");
-    say::text(&room[..size]);
+    say::text(room);
+}
+
+fn text(kind: u64, n: u8, size: usize) {
+    let mut room = [DOT; 64];
+    if size <= 64 {
+        in_room(kind, n, &mut room[..size]);
+    }
 }
 
 fn from_name(word: &[u8]) {

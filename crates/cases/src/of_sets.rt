@@ -42,19 +42,24 @@ fn highest(answer: Highest) {
 }
 
 // In a case an action of a list is one byte, 64 more than its number.
-fn from_list(text: &[u8]) {
-    let mut list = [0u8; 36];
+fn unmark(text: &[u8], list: &mut [u8]) {
     let mut k = 0;
     while k < text.len() {
-        if k < 36 {
-            list[k] = text[k] % 64;
+        if k >= list.len() {
+            return;
         }
+        list[k] = text[k] % 64;
         k += 1;
     }
-    if k > 36 {
-        return;
+}
+
+fn from_list(text: &[u8]) {
+    let mut list = [0u8; 36];
+    unmark(text, &mut list);
+    let length = text.len();
+    if length <= 36 {
+        changed(ActionSet::from_list(&list[..length]));
     }
-    changed(ActionSet::from_list(&list[..k]));
 }
 
 fn shown(place: u8) -> u8 {
@@ -64,21 +69,28 @@ fn shown(place: u8) -> u8 {
     64 + place % 64
 }
 
-fn members(set: ActionSet, places: usize) {
-    let mut room = [UNTOUCHED; 40];
-    if places > 40 {
-        return;
+fn show(room: &[u8]) {
+    let mut k = 0;
+    while k < room.len() {
+        say::text(&[shown(room[k])]);
+        k += 1;
     }
-    let answer = set.members(&mut room[..places]);
+}
+
+fn in_room(set: ActionSet, room: &mut [u8]) {
+    let answer = set.members(room);
     match answer {
         Listed::Count(k) => say::number(k as u64),
         Listed::Refused(x) => say::refused(x),
     }
     say::text(b" ");
-    let mut k = 0;
-    while k < places {
-        say::text(&[shown(room[k])]);
-        k += 1;
+    show(room);
+}
+
+fn members(set: ActionSet, places: usize) {
+    let mut room = [UNTOUCHED; 40];
+    if places <= 40 {
+        in_room(set, &mut room[..places]);
     }
 }
 
