@@ -6,18 +6,21 @@ use mathlib.Core.List.{List, [], _∷_}
 use Prim.Native.Nat.{ℕ, zero, suc, _+_, _≤_, _<_}
 use native.Mathlib.Nat.{le-of-suc-le-suc, not-suc-le-zero}
 use native.Mathlib.Omega.{arith}
-use borrow.Author.Tests.{lt-ltb, le-ltb, ltb-true, lt-leb, le-leb}
+use borrow.Author.Tests.{lt-ltb, le-ltb, ltb-true, leb-true, lt-leb, le-leb}
 use lib.ListN.{length, drop, getD, drop-of-length-le}
 use Rattle.laws.specs.Lists.{drop-at}
 use Rattle.refusal.specs.Judge.{checkedOf}
-use Rattle.refusal.specs.JudgeLaws.{shown}
+use Rattle.refusal.specs.JudgeLaws.{alone, shown}
 use Rattle.refusal.specs.declared.Checked.{Checked}
 use Rattle.refusal.specs.declared.Checked.the-variants.{Passed, Refused}
 use Rattle.refusal.specs.declared.Refusal.the-variants.{UnknownAction}
 use Rattle.action.specs.Known.{actions, known, knownFront, actionTest, listTest}
 
 pub action-shown : {n : ℕ} {checked : Checked} → checked ≡ checkedOf (actionTest n) → checked ≡ Passed → n < actions
-action-shown {n} e p = ltb-true n actions (shown (actionTest n) e p)
+action-shown {n} e p = ltb-true n actions (shown (actionTest n) [] (alone (actionTest n) e) p .0)
+
+pub list-shown : (list : List ℕ) {checked : Checked} → checked ≡ checkedOf (listTest list) → checked ≡ Passed → length list ≤ knownFront list
+list-shown list e p = leb-true (length list) (knownFront list) (shown (listTest list) [] (alone (listTest list) e) p .0)
 
 -- the first i numbers of the list are actions
 abbrev pub Front : List ℕ → ℕ → Type 0

@@ -7,7 +7,7 @@ use lib.Dec.{eqb, ltb}
 use Rattle.laws.specs.Bits.{has, collect, count, highestBelow}
 use Rattle.refusal.specs.Judge.{Test}
 use Rattle.refusal.specs.declared.Refusal.the-variants.{OutsideLimits}
-use Rattle.action.specs.Known.{actions}
+use Rattle.action.specs.Known.{actions, actionTest}
 
 abbrev pub Inside : ℕ → Type 0
 Inside s = s < 2 ^ actions
@@ -15,6 +15,10 @@ Inside s = s < 2 ^ actions
 -- refusal 1: bit 31 of a set is clear
 abbrev pub setTest : ℕ → Test
 setTest s = record { passed = ltb s (2 ^ actions); otherwise = OutsideLimits }
+
+-- refusals 1 and 3, of a set and an action
+abbrev pub memberTests : ℕ → ℕ → List Test
+memberTests s n = setTest s ∷ actionTest n ∷ []
 
 -- the set of the actions for which p holds
 abbrev pub setOf : (ℕ → Bool) → ℕ

@@ -16,13 +16,18 @@ use Rattle.laws.specs.Bits.{has, count}
 use Rattle.laws.specs.BitLaws.{has-high, has-with, collect-same, collect-lt, set-of-has}
 use Rattle.refusal.specs.declared.Checked.{Checked}
 use Rattle.refusal.specs.declared.Checked.the-variants.{Passed}
-use Rattle.refusal.specs.Judge.{checkedOf}
-use Rattle.refusal.specs.JudgeLaws.{shown}
-use Rattle.action.specs.Known.{actions}
-use Rattle.action_set.specs.Set.{Inside, setTest, setOf, withOf, sizeOf, upward, membersOf}
+use Rattle.refusal.specs.Judge.{checkedOf, checksOf}
+use Rattle.refusal.specs.JudgeLaws.{alone, shown}
+use Rattle.action.specs.Known.{actions, actionTest}
+use Rattle.action_set.specs.Set.{Inside, setTest, memberTests, setOf, withOf, sizeOf, upward, membersOf}
 
 pub set-shown : {s : ℕ} {checked : Checked} → checked ≡ checkedOf (setTest s) → checked ≡ Passed → Inside s
-set-shown {s} e p = ltb-true s (2 ^ actions) (shown (setTest s) e p)
+set-shown {s} e p = ltb-true s (2 ^ actions) (shown (setTest s) [] (alone (setTest s) e) p .0)
+
+pub member-shown : (s n : ℕ) {checked : Checked} → checked ≡ checksOf (memberTests s n) → checked ≡ Passed → Inside s × (n < actions)
+member-shown s n e p =
+    let first = shown (setTest s) (actionTest n ∷ []) e p in
+    (ltb-true s (2 ^ actions) (first .0), ltb-true n actions (shown (actionTest n) [] (first .1) p .0))
 
 pub set-inside : (p : ℕ → Bool) → Inside (setOf p)
 set-inside p = collect-lt p actions

@@ -1,12 +1,11 @@
 // The work on a set's bits, for callers that know the set and the number to be in range.
 ghost use mathlib.Core.Path.{_≡_};
-ghost use mathlib.Core.Bool.{true};
 ghost use Prim.Native.Nat.{_^_, _≤_, _<_};
 ghost use lib.ListN.{length};
 ghost use Rattle.laws.specs.Lists.{elem};
 ghost use Rattle.laws.specs.Bits.{has, Member, Top};
 ghost use Rattle.text.specs.Over.{Put};
-ghost use Rattle.action.specs.Known.{actions, listTest};
+ghost use Rattle.action.specs.Known.{actions, knownFront};
 ghost use Rattle.action_set.specs.Set.{Inside, withOf, withoutOf, keepOf, sizeOf, setOf, membersOf};
 use action::ACTIONS;
 
@@ -80,7 +79,7 @@ pub fn keep(s: u32, passing: u32) -> u32
 }
 
 pub fn of_list(list: &[u8]) -> u32
-    requires { ⌜ listTest (now list) .passed ≡ true ⌝ }
+    requires { ⌜ length (now list) ≤ knownFront (now list) ⌝ }
     ensures { λ r. ⌜ r ≡ setOf (elem (now (list .entry))) ⌝ }
 {
     let mut s: u32 = 0;

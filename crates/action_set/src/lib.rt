@@ -1,7 +1,7 @@
 // Sets of actions: 31 bits, bit n for action n. Every method takes any number, and refuses what is outside the limits.
 ghost use mathlib.Core.Path.{_≡_};
-ghost use Rattle.refusal.specs.Judge.{checkedOf};
-ghost use Rattle.action_set.specs.Set.{setTest};
+ghost use Rattle.refusal.specs.Judge.{checkedOf, checksOf};
+ghost use Rattle.action_set.specs.Set.{setTest, memberTests};
 ghost use Rattle.action_set.specs.Entries.{FromBits, FromList, Contains, Set, Unset, Len, IsEmpty, HighestIs, Members};
 use refusal::Checked;
 use refusal::Refusal;
@@ -63,6 +63,16 @@ impl ActionSet {
         Checked::Refused(Refusal::OutsideLimits)
     }
 
+    fn check_with(self, n: u8) -> Checked
+        ensures { λ r. ⌜ r ≡ checksOf (memberTests (self .0) n) ⌝ }
+    {
+        let inside = self.check();
+        if let Checked::Refused(x) = inside {
+            return Checked::Refused(x);
+        }
+        action::check_action(n)
+    }
+
     pub fn from_bits(bits: u32) -> Changed
         ensures { λ r. ⌜ FromBits bits r ⌝ }
     {
@@ -87,12 +97,8 @@ impl ActionSet {
     pub fn contains(self, n: u8) -> Asked
         ensures { λ r. ⌜ Contains (self .0) n r ⌝ }
     {
-        let inside = self.check();
-        if let Checked::Refused(x) = inside {
-            return Asked::Refused(x);
-        }
-        let known = action::check_action(n);
-        if let Checked::Refused(x) = known {
+        let tested = self.check_with(n);
+        if let Checked::Refused(x) = tested {
             return Asked::Refused(x);
         }
         let bits = self.0;
@@ -102,12 +108,8 @@ impl ActionSet {
     pub fn set(self, n: u8) -> Changed
         ensures { λ r. ⌜ Set (self .0) n r ⌝ }
     {
-        let inside = self.check();
-        if let Checked::Refused(x) = inside {
-            return Changed::Refused(x);
-        }
-        let known = action::check_action(n);
-        if let Checked::Refused(x) = known {
+        let tested = self.check_with(n);
+        if let Checked::Refused(x) = tested {
             return Changed::Refused(x);
         }
         let bits = self.0;
@@ -117,12 +119,8 @@ impl ActionSet {
     pub fn unset(self, n: u8) -> Changed
         ensures { λ r. ⌜ Unset (self .0) n r ⌝ }
     {
-        let inside = self.check();
-        if let Checked::Refused(x) = inside {
-            return Changed::Refused(x);
-        }
-        let known = action::check_action(n);
-        if let Checked::Refused(x) = known {
+        let tested = self.check_with(n);
+        if let Checked::Refused(x) = tested {
             return Changed::Refused(x);
         }
         let bits = self.0;

@@ -21,8 +21,12 @@ unfoldable pub judged : {A : Type 0} → (Refusal → A) → A → List Test →
 judged refused answer [] = answer
 judged refused answer (t ∷ rest) = cond (t .passed) (judged refused answer rest) (refused (t .otherwise))
 
+-- what tests answer by themselves: one, and several in their order
 abbrev pub checkedOf : Test → Checked
 checkedOf t = cond (t .passed) Passed (Refused (t .otherwise))
+
+abbrev pub checksOf : List Test → Checked
+checksOf tests = judged Refused Passed tests
 
 -- refusal 6
 abbrev pub roomTest : ℕ → ℕ → Test

@@ -4,8 +4,7 @@ use mathlib.Core.Path.{refl, ap}
 use borrow.Author.Needs.{needs}
 use Rattle.refusal.specs.JudgeLaws.{stopped, onward, answered}
 use Rattle.action_set.specs.Entries.{aSet}
-use Rattle.refusal.specs.JudgeLaws.{shown}
-use Rattle.action.specs.Known.{listTest}
+use Rattle.action.specs.KnownLaws.{list-shown}
 use Rattle.action_set.proofs.ActionSet.from_list.Statement.{statement}
 use Rattle.action_set.proofs.ActionSet.from_list.Tie as tie
 
@@ -17,5 +16,5 @@ from-list-spec =
     (λ c. search needs)
     (λ c. stopped (c .before .before .before .check-list .ensures) (c .before .known .given .1))
     (λ c. search needs)
-    (λ c κs. shown (listTest (c .before .before .before .before .args .list .now)) (c .before .before .check-list .ensures) (c .enum-told .given .1))
+    (λ c κs. list-shown _ (c .before .before .check-list .ensures) (c .enum-told .given .1))
     (λ c. onward (c .before .before .before .check-list .ensures) (c .before .enum-told .given .1) (answered refl (ap aSet (c .of-list .ensures)))))

@@ -1,10 +1,11 @@
 -- `ActionSet::set` meets its contract.
 -- Assumes nothing.
 use mathlib.Core.Path.{refl, ap}
+use mathlib.Core.List.{[]}
 use borrow.Author.Needs.{needs}
-use Rattle.refusal.specs.JudgeLaws.{stopped, onward, answered}
-use Rattle.action.specs.KnownLaws.{action-shown}
-use Rattle.action_set.specs.SetLaws.{set-shown}
+use Rattle.refusal.specs.JudgeLaws.{stopped-by, onward-by, answered}
+use Rattle.action_set.specs.Set.{memberTests}
+use Rattle.action_set.specs.SetLaws.{member-shown}
 use Rattle.action_set.specs.Entries.{aSet}
 use Rattle.action_set.proofs.ActionSet.set.Statement.{statement}
 use Rattle.action_set.proofs.ActionSet.set.Tie as tie
@@ -15,16 +16,9 @@ set-spec =
     (tie.spec
     (λ c κs. tt)
     (λ c. search needs)
-    (λ c. stopped (c .before .before .before .check .ensures) (c .before .inside .given .1))
+    (λ c. let a = c .before .before .before .before .args in stopped-by (memberTests (a .self .0) (a .n)) [] (c .before .before .before .check-with .ensures) (c .before .tested .given .1))
     (λ c. search needs)
-    (λ c κs. tt)
-    (λ c. search needs)
+    (λ c κs. let a = c .before .before .before .args in member-shown (a .self .0) (a .n) (c .before .before .check-with .ensures) (c .enum-told .given .1))
     (λ c.
-    let k = c .before .before .before in
-    onward (k .before .before .before .check .ensures) (k .before .enum-told .given .1) (stopped (k .check-action .ensures) (c .before .known .given .1)))
-    (λ c. search needs)
-    (λ c κs. (set-shown (c .before .before .before .before .before .check .ensures) (c .before .before .before .enum-told .given .1), action-shown (c .before .before .check-action .ensures) (c .enum-told2 .given .1)))
-    (λ c.
-    let k = c .before .before .before in
-    onward (k .before .before .before .check .ensures) (k .before .enum-told .given .1)
-    (onward (k .check-action .ensures) (c .before .enum-told2 .given .1) (answered refl (ap aSet (c .add .ensures .0))))))
+    let a = c .before .before .before .before .args in
+    onward-by (memberTests (a .self .0) (a .n)) [] (c .before .before .before .check-with .ensures) (c .before .enum-told .given .1) (answered refl (ap aSet (c .add .ensures .0)))))

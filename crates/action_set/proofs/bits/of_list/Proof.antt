@@ -1,13 +1,12 @@
 -- `action_set::bits::of_list` meets its contract: what is left of the list is still to be joined.
 -- Assumes nothing.
 use mathlib.Core.Path.{_≡_, sym, ap, _∙_}
-use Prim.Native.Nat.{_-_, _≤_}
+use Prim.Native.Nat.{_-_}
 use native.Mathlib.Omega.{arith}
-use borrow.Author.Tests.{leb-true}
 use lib.Pow.{pow-pos}
 use lib.ListN.{length, drop, drop-of-length-le}
 use Rattle.laws.specs.Lists.{elem}
-use Rattle.action.specs.Known.{actions, knownFront}
+use Rattle.action.specs.Known.{actions}
 use Rattle.action.specs.KnownLaws.{known-each}
 use Rattle.action_set.specs.Set.{Inside, setOf}
 use Rattle.action_set.specs.SetLaws.{joined, joined-start, joined-turn, joined-end}
@@ -19,9 +18,6 @@ Inv-loop list s₀ i₀ s i = (joined s (drop i list) ≡ setOf (elem list)) × 
 
 abbrev μ-loop : tie.MeasureT-loop
 μ-loop list s₀ i₀ s i = length list - i
-
-all-known : (c : tie.Start Inv-loop μ-loop) → length (c .args .list .now) ≤ knownFront (c .args .list .now)
-all-known c = leb-true _ _ (c .pre)
 
 again : tie.Need-loop-again Inv-loop μ-loop
 again c =
@@ -41,7 +37,7 @@ of-list-spec =
     μ-loop
     (λ c. (joined-start _, pow-pos actions))
     (λ c. omega arith)
-    (λ c κs. (c .before .before .loop .inv .1, known-each _ (all-known (c .before .before .before .before)) _ (c .before .loop-test .taken)))
+    (λ c κs. (c .before .before .loop .inv .1, known-each _ (c .before .before .before .before .pre) _ (c .before .loop-test .taken)))
     (λ c. omega arith)
     (λ c. omega arith)
     again

@@ -1,0 +1,24 @@
+-- `ActionSet::check_with` meets its contract.
+-- Assumes nothing.
+use mathlib.Core.List.{[], _∷_}
+use borrow.Author.Needs.{needs}
+use Rattle.refusal.specs.JudgeLaws.{alone, checks-stop, checks-on}
+use Rattle.action.specs.Known.{actionTest}
+use Rattle.action_set.specs.Set.{setTest}
+use Rattle.action_set.proofs.ActionSet.check_with.Statement.{statement}
+use Rattle.action_set.proofs.ActionSet.check_with.Tie as tie
+
+pub check-with-spec : {M : Type 1} → statement M
+check-with-spec =
+    tie.close
+    (tie.spec
+    (λ c κs. tt)
+    (λ c. search needs)
+    (λ c.
+    let a = c .before .before .before .before .args in
+    checks-stop (setTest (a .self .0)) (actionTest (a .n) ∷ []) (c .before .before .before .check .ensures) (c .before .inside .given .1))
+    (λ c. search needs)
+    (λ c κs. tt)
+    (λ c.
+    let a = c .before .before .before .before .args in
+    checks-on (setTest (a .self .0)) (actionTest (a .n) ∷ []) (c .before .before .before .check .ensures) (c .before .enum-told .given .1) (alone (actionTest (a .n)) (c .check-action .ensures))))
