@@ -13,7 +13,7 @@ use Rattle.action.specs.Known.{actions}
 use Rattle.action.specs.Amount.{AtMost, AtLeast}
 use Rattle.action.specs.Table.{actionOf, attributesOf}
 use Rattle.action.specs.Bounds.{RowBounds}
-use Rattle.action.specs.Price.{discountedBy, priceOf}
+use Rattle.action.specs.Price.{priceOf}
 use Rattle.action.specs.declared.table.Amount.{Amount}
 use Rattle.action.specs.declared.table.Amount.the-variants.{Of, Nothing}
 use Rattle.action.specs.declared.table.Attributes.{Attributes}

@@ -1,18 +1,16 @@
 -- Laws of names and labels: where they stand among the texts, how long they are, and that a word's key finds its name.
 -- Assumes nothing.
 use mathlib.Core.Path.{_≡_, refl, sym, ap, subst, _∙_}
-use mathlib.Core.Bool.{Bool, true, false, cond}
-use mathlib.Core.Logic.{⊎-elim}
+use mathlib.Core.Bool.{Bool, true, false}
 use mathlib.Core.List.{List, [], _∷_, _++_}
 use Prim.Native.Nat.{ℕ, zero, suc, _+_, _≤_, _<_}
 use native.Mathlib.Nat.{zero-add, add-zero, suc-add, add-suc}
 use native.Mathlib.Omega.{arith}
 use lib.Dec.{T, leb, leb→le, eqb, eqb→eq}
 use lib.ListN.{length, getD, length-append}
-use borrow.Author.Tests.{eqb-true}
-use Rattle.laws.specs.Tests.{either, true-false}
+use Rattle.laws.specs.Tests.{true-false}
 use Rattle.laws.specs.Lists.{elem}
-use Rattle.laws.specs.Same.{same, same→eq, same-refl, below, below-at}
+use Rattle.laws.specs.Same.{same, same→eq, same-refl, below-at}
 use Rattle.action.specs.Table.{actionOf}
 use Rattle.action.specs.Known.{actions}
 use Rattle.action.specs.Names.{nameOf, labelOf, quotedOf, macroOf, textOf, foundFrom, foundOf}

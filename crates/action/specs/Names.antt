@@ -2,12 +2,11 @@
 -- Assumes nothing.
 use mathlib.Core.Bool.{cond}
 use mathlib.Core.List.{List, [], _∷_, _++_}
-use Prim.Native.Nat.{ℕ, zero, suc, _+_, _*_}
-use Prim.Native.String.{String}
+use Prim.Native.Nat.{ℕ, zero, suc, _+_}
 use Rattle.text.specs.Bytes.{bytes}
 use Rattle.laws.specs.Same.{same}
 use Rattle.laws.specs.Lists.{elem}
-use Rattle.action.specs.Table.{Action, table, actionOf, attributesOf}
+use Rattle.action.specs.Table.{Action, actionOf, attributesOf}
 use Rattle.action.specs.Known.{actions}
 use Rattle.action.specs.Wait.{waitOf}
 use Rattle.action.specs.declared.texts.Text.{Text}

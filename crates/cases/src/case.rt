@@ -1,5 +1,5 @@
 // The line of a case: its kind in two digits, eight numbers of ten digits, and 36 bytes of text.
-ghost use Prim.Native.Nat.{_≤_, _<_};
+ghost use Prim.Native.Nat.{_<_};
 
 const TEXT: usize = 91;
 

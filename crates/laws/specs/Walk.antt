@@ -6,7 +6,7 @@ use Prim.Native.Nat.{ℕ, _+_, _-_, _^_, _≤_, _<_}
 use native.Mathlib.Nat.{le-refl, lt-of-le-of-lt, le-trans, add-comm}
 use native.Mathlib.Omega.{arith}
 use lib.Pow.{pow-pos}
-use Rattle.laws.specs.Bits.{has, keepBits, Member}
+use Rattle.laws.specs.Bits.{keepBits, Member}
 use Rattle.laws.specs.BitLaws.{has-low, keep-step, keep-none}
 
 -- s is walked, `kept` is what is held of it, `rest` what is still to be tested

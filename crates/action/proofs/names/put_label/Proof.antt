@@ -1,6 +1,6 @@
 -- `action::names::put_label` meets its contract: label n is entry 31 + n.
 -- Assumes nothing.
-use mathlib.Core.Path.{sym, ap}
+use mathlib.Core.Path.{ap}
 use native.Mathlib.Omega.{arith}
 use lib.ListN.{length}
 use borrow.Author.Needs.{needs}

@@ -1,6 +1,5 @@
 -- `action::texts::put_macro_text` meets its contract.
 -- Assumes nothing.
-use mathlib.Core.Path.{sym}
 use native.Mathlib.Omega.{arith}
 use borrow.Author.Needs.{needs}
 use Rattle.text.specs.OverLaws.{then}

@@ -1,6 +1,6 @@
 -- `ActionSet::from_bits` meets its contract.
 -- Assumes nothing.
-use mathlib.Core.Path.{refl, ap}
+use mathlib.Core.Path.{refl}
 use borrow.Author.Needs.{needs}
 use Rattle.refusal.specs.JudgeLaws.{stopped, onward, answered}
 use Rattle.action_set.proofs.ActionSet.from_bits.Statement.{statement}

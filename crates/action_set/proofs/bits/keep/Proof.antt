@@ -6,7 +6,7 @@ use native.Mathlib.Omega.{arith}
 use borrow.Author.Tests.{not-true, not-false}
 use Rattle.laws.specs.Bits.{has}
 use Rattle.laws.specs.BitLaws.{has-low}
-use Rattle.laws.specs.Walk.{Walk, start, done, fits, falls, stays, goes}
+use Rattle.laws.specs.Walk.{Walk, start, done, falls, stays, goes}
 use Rattle.action.specs.Known.{actions}
 use Rattle.action_set.proofs.bits.keep.Statement.{statement}
 use Rattle.action_set.proofs.bits.keep.Tie as tie

@@ -1,6 +1,6 @@
 -- `crafty::actions::wait` meets its contract.
 -- Assumes nothing.
-use mathlib.Core.Path.{_≡_, refl, ap, _∙_}
+use mathlib.Core.Path.{refl, ap, _∙_}
 use borrow.Author.Needs.{needs}
 use Rattle.refusal.specs.JudgeLaws.{stopped, onward, answered}
 use Rattle.action.specs.Wait.{waitOf}
