@@ -1,9 +1,9 @@
 -- Laws of sets: a list collected one number after the other, and the members in rising order.
 -- Assumes nothing.
 use mathlib.Core.Path.{_≡_, sym, ap, _∙_}
-use mathlib.Core.Bool.{Bool, true, false, cond, _||_}
+use mathlib.Core.Bool.{Bool, true, false, cond, _&&_, _||_}
 use mathlib.Core.List.{List, [], _∷_}
-use Prim.Native.Nat.{ℕ, zero, suc, _+_, _^_, _<_}
+use Prim.Native.Nat.{ℕ, zero, suc, _+_, _-_, _^_, _<_}
 use native.Mathlib.Nat.{zero-add, add-zero, add-suc, suc-add}
 use native.Mathlib.Omega.{arith}
 use borrow.Author.Tests.{ltb-true}
@@ -11,6 +11,7 @@ use lib.Dec.{eqb}
 use lib.ListN.{length, drop, getD}
 use lib.Pow.{pow-pos}
 use Rattle.laws.specs.Tests.{or-false, or-assoc}
+use Rattle.laws.specs.Same.{sameBool, same-bool, below-at}
 use Rattle.laws.specs.Lists.{elem, drop-at}
 use Rattle.laws.specs.Bits.{has, count}
 use Rattle.laws.specs.BitLaws.{has-high, has-with, collect-same, collect-lt, set-of-has}
@@ -19,7 +20,7 @@ use Rattle.refusal.specs.declared.Checked.the-variants.{Passed}
 use Rattle.refusal.specs.Judge.{checkedOf, checksOf}
 use Rattle.refusal.specs.JudgeLaws.{alone, shown}
 use Rattle.action.specs.Known.{actions, actionTest}
-use Rattle.action_set.specs.Set.{Inside, setTest, memberTests, setOf, withOf, sizeOf, upward, membersOf}
+use Rattle.action_set.specs.Set.{Inside, setTest, memberTests, setOf, withOf, keepOf, sizeOf, upward, membersOf}
 
 pub set-shown : {s : ℕ} {checked : Checked} → checked ≡ checkedOf (setTest s) → checked ≡ Passed → Inside s
 set-shown {s} e p = ltb-true s (2 ^ actions) (shown (setTest s) [] (alone (setTest s) e) p .0)
@@ -72,3 +73,12 @@ module _ (p : ℕ → Bool) where
 pub members-size : (s : ℕ) → length (membersOf s) ≡ sizeOf s
 unfolding count
 members-size s = sym (add-zero _) ∙ upward-length (has s) actions 0
+
+-- ---- every action
+
+pub keep-all : (f : ℕ → Bool) → keepOf f (2 ^ actions - 1) ≡ setOf f
+unfolding has
+keep-all f = collect-same (λ m. has (2 ^ actions - 1) m && f m) f actions (λ m h. rw (all-has m h))
+  where
+    all-has : (m : ℕ) → m < actions → has (2 ^ actions - 1) m ≡ true
+    all-has m h = same-bool _ true (below-at (λ m. sameBool (has (2 ^ actions - 1) m) true) actions m h tt)

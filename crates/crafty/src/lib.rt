@@ -1,5 +1,5 @@
 // The public face of the engine. Every entry takes any numbers and bytes, and refuses what is outside the limits by document 01's numbers.
-// The entries over sets are the methods of `ActionSet`.
+// The entries over sets and contexts are the methods of `ActionSet` and `CraftContext`.
 mod actions;
 mod room;
 
@@ -23,6 +23,12 @@ pub use actions::macro_text;
 pub use actions::name;
 pub use actions::price;
 pub use actions::wait;
+pub use craft_context::Built;
+pub use craft_context::CraftContext;
+pub use craft_context::CraftOptions;
+pub use craft_context::Given;
+pub use craft_context::Player;
+pub use craft_context::Recipe;
 pub use refusal::Also;
 pub use refusal::Checked;
 pub use refusal::Refusal;

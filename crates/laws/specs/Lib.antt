@@ -6,3 +6,5 @@ pub mod Bits
 pub mod BitLaws
 pub mod Walk
 pub mod Sign
+pub mod Plus
+pub mod Small

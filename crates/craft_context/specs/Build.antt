@@ -1,0 +1,70 @@
+-- The context that is built from player, recipe and options.
+-- Assumes nothing.
+use mathlib.Core.Path.{refl}
+use mathlib.Core.List.{_++_}
+use Prim.Native.Nat.{ℕ, _≤_}
+use lib.Dec.{leb}
+use Rattle.refusal.specs.declared.Report.{Report}
+use Rattle.refusal.specs.Report.{reportOf, success}
+use Rattle.refusal.specs.Judge.{Kind, Says}
+use Rattle.craft_context.specs.Limits.{statMost, divMost, modMost, buildTests, contextTests}
+use Rattle.craft_context.specs.Factor.{factorOf, progressPlus, qualityPlus}
+use Rattle.craft_context.specs.Pool.{poolOf}
+use Rattle.craft_context.specs.declared.context.CraftContext.{CraftContext}
+use Rattle.craft_context.specs.declared.sheet.Player.{Player}
+use Rattle.craft_context.specs.declared.sheet.Recipe.{Recipe}
+use Rattle.craft_context.specs.declared.sheet.CraftOptions.{CraftOptions}
+use Rattle.craft_context.specs.declared.sheet.Given.{Given}
+use Rattle.craft_context.specs.declared.sheet.Given.the-variants as G
+use Rattle.craft_context.specs.declared.build.Built.{Built}
+use Rattle.craft_context.specs.declared.build.Built.the-variants as B
+
+abbrev pub givenOr : Given → ℕ → ℕ
+givenOr (G.Value n) other = n
+givenOr G.Nothing other = other
+
+-- the modifier counts where the player's level is at most the recipe's
+unfoldable pub contextOf : Player → Recipe → CraftOptions → CraftContext
+contextOf player recipe options =
+    record {
+      «player_job_level» = player .«job_level»;
+      «recipe_job_level» = recipe .«job_level»;
+      «base_progress_factor» = factorOf (player .craftsmanship) (recipe .«progress_div») progressPlus (recipe .«progress_mod») (leb (player .«job_level») (recipe .«job_level»));
+      «base_quality_factor» = factorOf (player .control) (recipe .«quality_div») qualityPlus (recipe .«quality_mod») (leb (player .«job_level») (recipe .«job_level»));
+      «step_max» = options .«max_steps»;
+      «progress_target» = recipe .progress;
+      «starting_quality» = givenOr (options .«starting_quality») 0;
+      «quality_target» = givenOr (options .«quality_target») (recipe .quality);
+      «durability_max» = recipe .durability;
+      «cp_max» = player .cp;
+      «is_expert» = recipe .«is_expert»;
+      «action_pool» = record { 0 = poolOf player recipe };
+      «player_is_specialist» = options .«player_is_specialist»;
+      «use_manipulation» = options .«use_manipulation»;
+      «use_delineation» = options .«use_delineation»;
+    }
+
+-- what passed the tests of the numbers to build from
+pub record Buildable (player : Player) (recipe : Recipe) : Type 0 where
+  pub craftsmanship : player .craftsmanship ≤ statMost
+  pub control : player .control ≤ statMost
+  pub progress : 1 ≤ recipe .«progress_div»
+  pub progressMost : recipe .«progress_div» ≤ divMost
+  pub progressMod : recipe .«progress_mod» ≤ modMost
+  pub quality : 1 ≤ recipe .«quality_div»
+  pub qualityMost : recipe .«quality_div» ≤ divMost
+  pub qualityMod : recipe .«quality_mod» ≤ modMost
+
+-- ---- the entry
+
+abbrev builtTold : Built → Report
+builtTold (B.Context c) = success
+builtTold (B.Refused x) = reportOf x
+
+abbrev pub built : Kind Built
+built = record { told = builtTold; refused = B.Refused; refusing = λ x. refl }
+
+-- the numbers to build from are tested first, and then the context that they give
+abbrev pub New : Player → Recipe → CraftOptions → Built → Type 0
+New player recipe options r =
+    Says built (buildTests player recipe ++ contextTests (contextOf player recipe options)) (B.Context (contextOf player recipe options)) r

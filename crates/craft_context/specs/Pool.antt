@@ -1,0 +1,39 @@
+-- Which actions a player has for a recipe.
+-- Assumes nothing.
+use mathlib.Core.Bool.{Bool, true, cond, not, _&&_, _||_}
+use Prim.Native.Nat.{ℕ, _-_}
+use lib.Dec.{eqb, leb}
+use Rattle.action.specs.Actions as A
+use Rattle.action.specs.Table.{attributesOf}
+use Rattle.action.specs.declared.table.Amount.{Amount}
+use Rattle.action.specs.declared.table.Amount.the-variants as M
+use Rattle.action_set.specs.Set.{setOf}
+use Rattle.craft_context.specs.declared.sheet.Player.{Player}
+use Rattle.craft_context.specs.declared.sheet.Recipe.{Recipe}
+
+-- no cost counts 0
+abbrev pub affordable : ℕ → Amount → Bool
+affordable cp (M.Of cost) = leb cost cp
+affordable cp M.Nothing = true
+
+-- player level minus recipe level, not below 0
+abbrev pub ahead : Player → Recipe → ℕ
+ahead player recipe = player .«job_level» - recipe .«job_level»
+
+-- level and points are enough, and TrainedEye needs a player ten levels ahead
+abbrev pub able : Player → Recipe → ℕ → Bool
+able player recipe n =
+    leb (attributesOf n .level) (player .«job_level») && (affordable (player .cp) (attributesOf n .«cp_cost») && (not (eqb n A.TrainedEye) || leb 10 (ahead player recipe)))
+
+-- the Traited action that takes an action's place, or the action itself
+abbrev pub twinOf : ℕ → ℕ
+twinOf n =
+    cond (eqb n A.BasicSynthesis) A.BasicSynthesisTraited
+    (cond (eqb n A.CarefulSynthesis) A.CarefulSynthesisTraited (cond (eqb n A.Groundwork) A.GroundworkTraited (cond (eqb n A.DelicateSynthesis) A.DelicateSynthesisTraited n)))
+
+-- able, and not replaced by a Traited twin
+abbrev pub inPool : Player → Recipe → ℕ → Bool
+inPool player recipe n = able player recipe n && (eqb (twinOf n) n || not (able player recipe (twinOf n)))
+
+abbrev pub poolOf : Player → Recipe → ℕ
+poolOf player recipe = setOf (inPool player recipe)
