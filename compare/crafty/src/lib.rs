@@ -49,7 +49,7 @@ pub mod tree {
 
 pub use action::Action;
 pub use action_set::ActionSet;
-pub use craft_context::CraftContext;
+pub use craft_context::{CraftContext, CraftOptions};
 pub use craft_state::{CraftResult, CraftState};
 pub use player::Player;
 pub use recipe::Recipe;

@@ -1,20 +1,21 @@
 //! The line of a case; its layout and the kinds stand in docs/COMPARISON.md.
 
-pub const WIDTH: usize = 128;
-pub const LAST_KIND: u8 = 20;
+pub const WIDTH: usize = 256;
+pub const LAST_KIND: u8 = 21;
 pub const TEXT_ROOM: usize = 36;
-const TEXT_START: usize = 91;
+pub const NUMBERS: usize = 19;
+const TEXT_START: usize = 212;
 
 pub struct Case {
     pub kind: u8,
-    pub numbers: [u32; 8],
+    pub numbers: [u32; NUMBERS],
     text: [u8; TEXT_ROOM],
 }
 
 impl Case {
     /// The numbers not given are 0.
     pub fn new(kind: u8, given: &[u32]) -> Case {
-        let mut numbers = [0; 8];
+        let mut numbers = [0; NUMBERS];
         numbers[..given.len()].copy_from_slice(given);
         Case { kind, numbers, text: [b' '; TEXT_ROOM] }
     }
@@ -43,13 +44,14 @@ impl Case {
         let numbers: String = self.numbers.iter().map(|number| format!(" {number:010}")).collect();
         let mut line = format!("{:02}{numbers} ", self.kind).into_bytes();
         line.extend(self.text);
+        line.resize(WIDTH - 1, b' ');
         line.push(b'\n');
         line
     }
 
     /// None unless the line is exactly one that `line` writes.
     pub fn read(line: &[u8]) -> Option<Case> {
-        let mut numbers = [0; 8];
+        let mut numbers = [0; NUMBERS];
         for (place, number) in numbers.iter_mut().enumerate() {
             *number = digits(line.get(3 + 11 * place..13 + 11 * place)?)?;
         }

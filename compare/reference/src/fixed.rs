@@ -1,7 +1,9 @@
 //! The fixed list: every action, and every edge of the limits.
 
 use crate::actions::text;
-use crate::case::Case;
+use crate::case::{Case, NUMBERS};
+use crate::contexts::{FLAGS, HAS_QUALITY_TARGET, HAS_STARTING_QUALITY};
+use crate::edges::plain;
 use crafty::Action;
 
 const UNKNOWN: [u32; 3] = [31, 32, 255];
@@ -15,7 +17,8 @@ pub fn cases() -> Vec<Case> {
     let actions = [rows(), rooms(), words()];
     let sets = [sets(), lists(), members(), pairs()];
     let formulas = [progress_increases(), quality_increases(), durability_costs()];
-    actions.into_iter().chain(sets).chain(formulas).flatten().collect()
+    let contexts = [contexts()];
+    actions.into_iter().chain(sets).chain(formulas).chain(contexts).flatten().collect()
 }
 
 fn rows() -> Vec<Case> {
@@ -131,6 +134,27 @@ fn durability_costs() -> Vec<Case> {
     let fields: [&[u32]; 4] = [costs, &[0, 1, 2, 3, 256], TIMERS, TIMERS];
     let middles = [[19, 0, 0, 0], [19, 0, 4, 0], [19, 0, 0, 8], [19, 1, 4, 0], [19, 2, 0, 8]];
     middles.iter().flat_map(|middle| varied(20, middle, &fields)).collect()
+}
+
+/// Both sides of every edge, levels around TrainedEye's and every action's, and options given or not.
+fn contexts() -> Vec<Case> {
+    let stat = &[0, 1, 9_999, 10_000, 10_001, u32::MAX];
+    let amount = &[0, 1, 1_000_000, 1_000_001, u32::MAX];
+    let div = &[0, 1, 1_000, 1_001, u32::MAX];
+    let modifier = &[0, 1, 100, 200, 201, u32::MAX];
+    let level = &[0, 1, 5, 31, 54, 80, 82, 89, 90, 91, 99, 100, 101, 110, 111, u32::MAX];
+    let cp = &[0, 6, 17, 18, 249, 250, 600, 1_000_000, 1_000_001];
+    let durability = &[0, 1, 97, 98, 127, 128, 129, 130];
+    let free = &[0, u32::MAX];
+    let flags: Vec<u32> = (0..64).collect();
+    let fields: [&[u32]; NUMBERS] = [
+        level, stat, stat, cp, free, level, free, amount, amount, durability, div, modifier, div,
+        modifier, free, &[0, 1, 255], amount, amount, &flags,
+    ];
+    let mut target_given = plain();
+    target_given[8] = u32::MAX;
+    target_given[FLAGS] |= HAS_STARTING_QUALITY | HAS_QUALITY_TARGET;
+    [plain(), target_given].iter().flat_map(|middle| varied(21, middle, &fields)).collect()
 }
 
 /// The middle with one of its numbers replaced, by each of that number's values in turn.

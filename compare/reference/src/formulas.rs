@@ -1,6 +1,6 @@
 //! Answers of the inner functions of one action, kinds 18 to 20.
 
-use crate::case::Case;
+use crate::case::{Case, NUMBERS};
 use crafty::{Action, ActionSet, CraftContext, CraftState};
 
 pub fn answer(case: &Case) -> String {
@@ -45,7 +45,7 @@ pub fn plain_context() -> CraftContext {
     }
 }
 
-fn progress_increase([base, efficiency, veneration, muscle_memory, ..]: [u32; 8]) -> String {
+fn progress_increase([base, efficiency, veneration, muscle_memory, ..]: [u32; NUMBERS]) -> String {
     let context = CraftContext { base_progress_factor: base, ..plain_context() };
     let mut state = CraftState::_new(&context);
     state.buffs.veneration = veneration as u8;
@@ -54,7 +54,7 @@ fn progress_increase([base, efficiency, veneration, muscle_memory, ..]: [u32; 8]
 }
 
 fn quality_increase(
-    [action, base, efficiency, inner_quiet, innovation, great_strides, missing, _]: [u32; 8],
+    [action, base, efficiency, inner_quiet, innovation, great_strides, missing, ..]: [u32; NUMBERS],
 ) -> String {
     let context =
         CraftContext { base_quality_factor: base, quality_target: missing, ..plain_context() };
@@ -66,7 +66,7 @@ fn quality_increase(
     Action::calc_quality_increase(&state, efficiency).to_string()
 }
 
-fn durability_cost([base, perfection, waste_not, waste_not_ii, ..]: [u32; 8]) -> String {
+fn durability_cost([base, perfection, waste_not, waste_not_ii, ..]: [u32; NUMBERS]) -> String {
     let context = plain_context();
     let mut state = CraftState::_new(&context);
     state.trained_perfection_active = [None, Some(true), Some(false)][perfection as usize];

@@ -1,7 +1,8 @@
 //! Random cases: mostly inside the limits, and often at their edges.
 
 use crate::actions;
-use crate::case::{Case, LAST_KIND, TEXT_ROOM};
+use crate::case::{Case, LAST_KIND, NUMBERS, TEXT_ROOM};
+use crate::contexts::FLAGS;
 use crate::formulas::limits;
 use crate::random::Random;
 use crafty::Action;
@@ -26,7 +27,8 @@ fn case(random: &mut Random, kind: u8) -> Case {
         10..=12 => Case::new(kind, &[set(random), number(random)]),
         16 => with_member_room(random),
         17 => Case::new(kind, &[set(random), set(random)]),
-        _ => Case::new(kind, &inputs(random, kind)),
+        18..=20 => Case::new(kind, &inputs(random, kind)),
+        _ => Case::new(kind, &sheet(random)),
     }
 }
 
@@ -133,4 +135,49 @@ fn around(random: &mut Random, limit: u32) -> u32 {
         5..=24 => 0,
         _ => random.between(0, limit),
     }
+}
+
+/// Player, recipe and options: nearly all inside the limits, with levels near each other.
+fn sheet(random: &mut Random) -> [u32; NUMBERS] {
+    let level = random.between(1, 110);
+    let near = (level + random.below(24)).saturating_sub(12);
+    let recipe_level = if random.one_in(8) { random.bits() } else { near };
+    let mut sheet = [0; NUMBERS];
+    sheet[..4].copy_from_slice(&[level, stat(random), stat(random), points(random)]);
+    sheet[4..9].copy_from_slice(&[
+        random.bits(),
+        recipe_level,
+        random.below(5),
+        seldom_outside(random, 1_000_000),
+        seldom_outside(random, 1_000_000),
+    ]);
+    sheet[9] = if random.one_in(32) { random.below(131) } else { random.between(1, 97) };
+    for (place, least, greatest) in [(10, 1, 1_000), (11, 0, 200), (12, 1, 1_000), (13, 0, 200)] {
+        sheet[place] = least + seldom_outside(random, greatest - least);
+    }
+    sheet[14] = random.bits();
+    sheet[15] = random.below(256);
+    sheet[16] = seldom_outside(random, 1_000_000);
+    sheet[17] = seldom_outside(random, 1_000_000);
+    sheet[FLAGS] = random.below(64);
+    sheet
+}
+
+fn stat(random: &mut Random) -> u32 {
+    seldom_outside(random, 10_000)
+}
+
+/// Points that some actions cost more than, or any number of them.
+fn points(random: &mut Random) -> u32 {
+    if random.one_in(2) {
+        return random.below(260);
+    }
+    seldom_outside(random, 1_000_000)
+}
+
+fn seldom_outside(random: &mut Random, limit: u32) -> u32 {
+    if random.one_in(128) {
+        return limit + 1 + random.below(3);
+    }
+    random.between(0, limit)
 }

@@ -1,8 +1,10 @@
-//! The Rust's side of the comparison: `fixed` and `random SEED COUNT` write cases, `answer` reads
-//! cases from standard input and writes one line for each.
+//! The Rust's side of the comparison: `fixed`, `edges` and `random SEED COUNT` write cases, `answer`
+//! reads cases from standard input and writes one line for each.
 
 mod actions;
 mod case;
+mod contexts;
+mod edges;
 mod fixed;
 mod formulas;
 mod generate;
@@ -19,9 +21,10 @@ fn main() -> io::Result<()> {
     let words: Vec<&str> = arguments.iter().map(String::as_str).collect();
     match words[..] {
         ["fixed"] => write_cases(&fixed::cases()),
+        ["edges"] => write_cases(&edges::cases()),
         ["random", seed, count] => write_cases(&generate::cases(number(seed), number(count))),
         ["answer"] => answer_cases(),
-        _ => fail("one of: fixed | random SEED COUNT | answer".to_string()),
+        _ => fail("one of: fixed | edges | random SEED COUNT | answer".to_string()),
     }
 }
 
@@ -56,6 +59,7 @@ fn answer(case: &Case) -> String {
     match case.kind {
         1..=7 => actions::answer(case),
         8..=17 => sets::answer(case),
-        _ => formulas::answer(case),
+        18..=20 => formulas::answer(case),
+        _ => contexts::answer(case),
     }
 }

@@ -3,7 +3,7 @@
 use std::fmt;
 
 pub enum Refusal {
-    SetOutside,
+    Outside,
     UnknownAction { place: usize },
     UnknownWord,
     RoomTooShort { needed: usize },
@@ -12,7 +12,7 @@ pub enum Refusal {
 impl fmt::Display for Refusal {
     fn fmt(&self, out: &mut fmt::Formatter) -> fmt::Result {
         match self {
-            Refusal::SetOutside => write!(out, "refused 1"),
+            Refusal::Outside => write!(out, "refused 1"),
             Refusal::UnknownAction { place } => write!(out, "refused 3 {place}"),
             // A name is one word, so its offset is always 0.
             Refusal::UnknownWord => write!(out, "refused 5 0"),

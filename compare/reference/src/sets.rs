@@ -30,7 +30,7 @@ pub fn answer(case: &Case) -> String {
 
 fn set(bits: u32) -> Result<ActionSet, Refusal> {
     if bits >> 31 == 1 {
-        return Err(Refusal::SetOutside);
+        return Err(Refusal::Outside);
     }
     let mut set = ActionSet::new();
     set.set_bit(bits);

@@ -1,7 +1,7 @@
-// The line of a case: its kind in two digits, eight numbers of ten digits, and 36 bytes of text.
+// The line of a case: its kind in two digits, nineteen numbers of ten digits, and 36 bytes of text.
 ghost use Prim.Native.Nat.{_<_};
 
-const TEXT: usize = 91;
+const TEXT: usize = 212;
 
 const TEXT_ROOM: usize = 36;
 
@@ -23,9 +23,9 @@ pub fn kind(line: &[u8]) -> u64 {
     digit(line, 0) * 10 + digit(line, 1)
 }
 
-// Number i of the line, 0 to 7.
+// Number i of the line, 0 to 18.
 pub fn number(line: &[u8], i: usize) -> u32
-    requires { ⌜ i < 8 ⌝ }
+    requires { ⌜ i < 19 ⌝ }
 {
     let start = 3 + 11 * i;
     let mut value: u64 = 0;
@@ -39,7 +39,7 @@ pub fn number(line: &[u8], i: usize) -> u32
 
 // Number i as the number of an action: a byte.
 pub fn action(line: &[u8], i: usize) -> u8
-    requires { ⌜ i < 8 ⌝ }
+    requires { ⌜ i < 19 ⌝ }
 {
     (number(line, i) % 256) as u8
 }

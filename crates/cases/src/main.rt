@@ -4,10 +4,11 @@ use libc::STDIN_FILENO;
 mod case;
 mod inner;
 mod of_actions;
+mod of_contexts;
 mod of_sets;
 mod say;
 
-const WIDTH: usize = 128;
+const WIDTH: usize = 256;
 
 // A whole number of lines.
 const BLOCK: usize = 4096;
@@ -17,7 +18,8 @@ fn answer(line: &[u8]) {
     match kind {
         1..=7 => of_actions::answer(kind, line),
         8..=17 => of_sets::answer(kind, line),
-        _ => inner::answer(kind, line),
+        18..=20 => inner::answer(kind, line),
+        _ => of_contexts::answer(line),
     }
     say::text(b"\n");
 }
@@ -35,7 +37,7 @@ fn answer_all(lines: &[u8]) {
 // Block after block, up to a hundred million lines.
 fn main() {
     let mut block = io::buffer();
-    let mut blocks: u32 = 3125000;
+    let mut blocks: u32 = 6250000;
     while blocks > 0 {
         let got = io::read_full(STDIN_FILENO, &mut block);
         answer_all(&block[..got]);

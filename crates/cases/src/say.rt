@@ -40,3 +40,24 @@ pub fn refused(x: Refusal) {
         Also::Nothing => {}
     }
 }
+
+// One more word.
+pub fn next(n: u32) {
+    text(b" ");
+    number(n as u64);
+}
+
+pub fn next_bit(b: bool) {
+    if b {
+        text(b" 1");
+    } else {
+        text(b" 0");
+    }
+}
+
+pub fn next_signed(z: i8) {
+    let mut room = [0u8; 10];
+    let k = text::put_signed(&mut room, 0, z, 0);
+    text(b" ");
+    text(&room[..k]);
+}

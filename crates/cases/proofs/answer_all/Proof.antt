@@ -7,7 +7,7 @@ use Rattle.cases.proofs.answer_all.Statement.{statement}
 use Rattle.cases.proofs.answer_all.Tie as tie
 
 abbrev Inv-loop : tie.InvT-loop
-Inv-loop lines left₀ at₀ left at = at + left * 128 ≤ length lines
+Inv-loop lines left₀ at₀ left at = at + left * 256 ≤ length lines
 
 abbrev μ-loop : tie.MeasureT-loop
 μ-loop lines left₀ at₀ left at = left

@@ -6,7 +6,7 @@ use Rattle.cases.proofs.case.number.Statement.{statement}
 use Rattle.cases.proofs.case.number.Tie as tie
 
 abbrev Inv-loop : tie.InvT-loop
-Inv-loop line i start value₀ k₀ value k = (k ≤ 10) × (start ≤ 80)
+Inv-loop line i start value₀ k₀ value k = (k ≤ 10) × (start ≤ 201)
 
 abbrev μ-loop : tie.MeasureT-loop
 μ-loop line i start value₀ k₀ value k = 10 - k
