@@ -83,12 +83,8 @@ fn can_build(player: &Player, recipe: &Recipe) -> bool {
 
 /// The pool and the factors of a context that was built are always inside.
 fn is_inside(context: &CraftContext) -> bool {
-    let amounts = [
-        context.progress_target,
-        context.starting_quality,
-        context.quality_target,
-        context.cp_max,
-    ];
+    let amounts =
+        [context.progress_target, context.starting_quality, context.quality_target, context.cp_max];
     amounts.iter().all(|amount| *amount <= 1_000_000) && (1..=97).contains(&context.durability_max)
 }
 

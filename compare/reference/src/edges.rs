@@ -10,8 +10,9 @@ const MODS: [u32; 7] = [0, 1, 99, 100, 101, 199, 200];
 /// A player and a recipe inside the limits, of one level, with every action in reach.
 pub fn plain() -> [u32; NUMBERS] {
     let mut numbers = [0; NUMBERS];
-    numbers[..16]
-        .copy_from_slice(&[100, 4_041, 3_987, 600, 1, 100, 0, 5_000, 9_000, 70, 130, 90, 115, 80, 0, 15]);
+    numbers[..16].copy_from_slice(&[
+        100, 4_041, 3_987, 600, 1, 100, 0, 5_000, 9_000, 70, 130, 90, 115, 80, 0, 15,
+    ]);
     numbers[FLAGS] = 7;
     numbers
 }

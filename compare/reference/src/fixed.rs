@@ -148,8 +148,25 @@ fn contexts() -> Vec<Case> {
     let free = &[0, u32::MAX];
     let flags: Vec<u32> = (0..64).collect();
     let fields: [&[u32]; NUMBERS] = [
-        level, stat, stat, cp, free, level, free, amount, amount, durability, div, modifier, div,
-        modifier, free, &[0, 1, 255], amount, amount, &flags,
+        level,
+        stat,
+        stat,
+        cp,
+        free,
+        level,
+        free,
+        amount,
+        amount,
+        durability,
+        div,
+        modifier,
+        div,
+        modifier,
+        free,
+        &[0, 1, 255],
+        amount,
+        amount,
+        &flags,
     ];
     let mut target_given = plain();
     target_given[8] = u32::MAX;

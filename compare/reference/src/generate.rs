@@ -1,7 +1,7 @@
 //! Random cases: mostly inside the limits, and often at their edges.
 
 use crate::actions;
-use crate::case::{Case, LAST_KIND, NUMBERS, TEXT_ROOM};
+use crate::case::{Case, NUMBERS, TEXT_ROOM};
 use crate::contexts::FLAGS;
 use crate::formulas::limits;
 use crate::random::Random;
@@ -10,10 +10,9 @@ use crafty::Action;
 const KNOWN: u32 = 31;
 
 /// The kinds take turns, so that each gets its share of the count.
-pub fn cases(seed: u64, count: u64) -> Vec<Case> {
+pub fn cases(seed: u64, count: u64, kinds: &[u8]) -> Vec<Case> {
     let mut random = Random::new(seed);
-    let kinds = (1..=LAST_KIND).cycle();
-    kinds.take(count as usize).map(|kind| case(&mut random, kind)).collect()
+    kinds.iter().cycle().take(count as usize).map(|kind| case(&mut random, *kind)).collect()
 }
 
 fn case(random: &mut Random, kind: u8) -> Case {

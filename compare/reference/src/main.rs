@@ -1,4 +1,4 @@
-//! The Rust's side of the comparison: `fixed`, `edges` and `random SEED COUNT` write cases, `answer`
+//! The Rust's side of the comparison: `fixed`, `edges` and `random SEED COUNT KIND..` write cases, `answer`
 //! reads cases from standard input and writes one line for each.
 
 mod actions;
@@ -13,7 +13,7 @@ mod refusal;
 mod room;
 mod sets;
 
-use case::{Case, WIDTH};
+use case::{Case, LAST_KIND, WIDTH};
 use std::io::{self, Read, Write};
 
 fn main() -> io::Result<()> {
@@ -22,10 +22,20 @@ fn main() -> io::Result<()> {
     match words[..] {
         ["fixed"] => write_cases(&fixed::cases()),
         ["edges"] => write_cases(&edges::cases()),
-        ["random", seed, count] => write_cases(&generate::cases(number(seed), number(count))),
+        ["random", seed, count, ref kinds @ ..] => {
+            write_cases(&generate::cases(number(seed), number(count), &of(kinds)))
+        }
         ["answer"] => answer_cases(),
-        _ => fail("one of: fixed | edges | random SEED COUNT | answer".to_string()),
+        _ => fail("one of: fixed | edges | random SEED COUNT KIND.. | answer".to_string()),
     }
+}
+
+/// The kinds that are named, or all of them.
+fn of(kinds: &[&str]) -> Vec<u8> {
+    if kinds.is_empty() {
+        return (1..=LAST_KIND).collect();
+    }
+    kinds.iter().map(|kind| number(kind) as u8).collect()
 }
 
 fn number(word: &str) -> u64 {

@@ -1,16 +1,13 @@
 // Kinds 18 to 20: the inner functions of one action, inside the limits that compare/ has too.
 use super::case;
 use super::say;
+use crafty::CraftContext;
 
 const LAST_ACTION: u32 = 30;
-
-const FACTOR: u32 = 200070;
 
 const PROGRESS: u32 = 500;
 
 const QUALITY: u32 = 300;
-
-const MISSING: u32 = 1000000;
 
 const QUIET: u32 = 10;
 
@@ -32,7 +29,7 @@ fn progress_increase(line: &[u8]) {
     let efficiency = case::number(line, 1);
     let veneration = case::number(line, 2);
     let muscle_memory = case::number(line, 3);
-    if base > FACTOR {
+    if base > CraftContext::FACTOR_MOST {
         outside();
         return;
     }
@@ -69,7 +66,7 @@ fn quality_increase(line: &[u8]) {
         outside();
         return;
     }
-    if base > FACTOR {
+    if base > CraftContext::FACTOR_MOST {
         outside();
         return;
     }
@@ -89,7 +86,7 @@ fn quality_increase(line: &[u8]) {
         outside();
         return;
     }
-    if missing > MISSING {
+    if missing > CraftContext::TARGET_MOST {
         outside();
         return;
     }

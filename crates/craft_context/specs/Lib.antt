@@ -6,3 +6,4 @@ pub mod FactorWorked
 pub mod Pool
 pub mod Build
 pub mod BuildLaws
+pub mod Worked

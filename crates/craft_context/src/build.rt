@@ -46,13 +46,13 @@ fn check_build(player: Player, recipe: Recipe) -> Checked
     if player.control > CraftContext::STAT_MOST {
         return refused;
     }
-    if divides(recipe.progress_div) {} else {
+    if !divides(recipe.progress_div) {
         return refused;
     }
     if recipe.progress_mod > CraftContext::MOD_MOST {
         return refused;
     }
-    if divides(recipe.quality_div) {} else {
+    if !divides(recipe.quality_div) {
         return refused;
     }
     if recipe.quality_mod > CraftContext::MOD_MOST {

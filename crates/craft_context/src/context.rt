@@ -73,7 +73,7 @@ impl CraftContext {
         if self.quality_target > CraftContext::TARGET_MOST {
             return refused;
         }
-        if is_durable(self.durability_max) {} else {
+        if !is_durable(self.durability_max) {
             return refused;
         }
         if self.cp_max > CraftContext::TARGET_MOST {
