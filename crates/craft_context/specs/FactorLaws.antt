@@ -36,7 +36,7 @@ module _ {stat divisor plus modifier : ℕ} (b : Bounded stat divisor plus modif
   scale-small = div-small binary32 _ hundred 2 100 (lit≤ tt) (lit< tt) hundred-value (of-nat-small binary32 modifier 200 (b .modified) (lit≤ tt))
 
   pub scaled-small : (scaled : Bool) → Small (scaledOf stat divisor plus modifier scaled) factorMost
-  scaled-small true = mul-small binary32 _ _ 100035 2 (lit≤ tt) base-small scale-small
+  scaled-small true = mul-small _ _ _ 100035 2 (lit≤ tt) base-small scale-small
   scaled-small false = small-more (baseOf stat divisor plus) 100035 factorMost (lit≤ tt) base-small
 
   -- THE bound of a factor, for all numbers that a context may be built from
@@ -49,5 +49,5 @@ base-plus stat divisor plus =
 
 pub scaled-plus : (stat divisor plus modifier : ℕ) (scaled : Bool) → Plus (scaledOf stat divisor plus modifier scaled)
 scaled-plus stat divisor plus modifier true =
-    plus-mul binary32 _ _ (base-plus stat divisor plus) (plus-div binary32 _ hundred (plus-of-nat binary32 modifier) hundred-plus)
+    plus-mul _ _ _ (base-plus stat divisor plus) (plus-div binary32 _ hundred (plus-of-nat binary32 modifier) hundred-plus)
 scaled-plus stat divisor plus modifier false = base-plus stat divisor plus

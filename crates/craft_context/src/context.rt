@@ -80,10 +80,6 @@ impl CraftContext {
             return refused;
         }
         let pool = self.action_pool;
-        let bits = pool.0;
-        if bits >= ActionSet::LIMIT {
-            return refused;
-        }
-        Checked::Passed
+        pool.check()
     }
 }

@@ -4,7 +4,7 @@ use mathlib.Core.Path.{_≡_, sym, ap, _∙_}
 use mir.Syntax.{w8}
 use mir.Val.{SFits}
 use mir.ValLaws.{toZ-ofZ}
-use borrow.Author.Tests.{le-leb, lt-leb, lt-ltb, le-ltb, not-true, not-false}
+use borrow.Author.Tests.{le-leb, lt-leb, not-true, not-false}
 use Rattle.refusal.specs.Judge.{judged}
 use Rattle.craft_context.specs.Limits.{durable}
 use Rattle.craft_context.proofs.context.CraftContext.check.Statement.{statement}
@@ -30,5 +30,5 @@ check-spec =
     (λ c κs. tt)
     (λ c. simp (le-leb _ _ (c .before .before .before .before .before .before .before .before .before .before .before .if1 .left), le-leb _ _ (c .before .before .before .before .before .before .before .before .before .if2 .left), le-leb _ _ (c .before .before .before .before .before .before .before .if3 .left), le-leb _ _ (c .before .before .before .before .before .if4 .left), le-leb _ _ (c .before .before .before .if5 .left), sturdy (c .before) ∙ not-true _ (c .if6 .taken)))
     (λ c. simp (le-leb _ _ (c .before .before .before .before .before .before .before .before .before .before .before .before .before .if1 .left), le-leb _ _ (c .before .before .before .before .before .before .before .before .before .before .before .if2 .left), le-leb _ _ (c .before .before .before .before .before .before .before .before .before .if3 .left), le-leb _ _ (c .before .before .before .before .before .before .before .if4 .left), le-leb _ _ (c .before .before .before .before .before .if5 .left), sturdy (c .before .before .before) ∙ not-false _ (c .before .before .if6 .left), lt-leb _ _ (c .if7 .taken)))
-    (λ c. simp (le-leb _ _ (c .before .before .before .before .before .before .before .before .before .before .before .before .before .before .before .if1 .left), le-leb _ _ (c .before .before .before .before .before .before .before .before .before .before .before .before .before .if2 .left), le-leb _ _ (c .before .before .before .before .before .before .before .before .before .before .before .if3 .left), le-leb _ _ (c .before .before .before .before .before .before .before .before .before .if4 .left), le-leb _ _ (c .before .before .before .before .before .before .before .if5 .left), sturdy (c .before .before .before .before .before) ∙ not-false _ (c .before .before .before .before .if6 .left), le-leb _ _ (c .before .before .if7 .left), le-ltb _ _ (c .if8 .taken)))
-    (λ c. simp (le-leb _ _ (c .before .before .before .before .before .before .before .before .before .before .before .before .before .before .before .if1 .left), le-leb _ _ (c .before .before .before .before .before .before .before .before .before .before .before .before .before .if2 .left), le-leb _ _ (c .before .before .before .before .before .before .before .before .before .before .before .if3 .left), le-leb _ _ (c .before .before .before .before .before .before .before .before .before .if4 .left), le-leb _ _ (c .before .before .before .before .before .before .before .if5 .left), sturdy (c .before .before .before .before .before) ∙ not-false _ (c .before .before .before .before .if6 .left), le-leb _ _ (c .before .before .if7 .left), lt-ltb _ _ (c .if8 .left))))
+    (λ c κs. tt)
+    (λ c. simp (le-leb _ _ (c .before .before .before .before .before .before .before .before .before .before .before .before .before .before .before .if1 .left), le-leb _ _ (c .before .before .before .before .before .before .before .before .before .before .before .before .before .if2 .left), le-leb _ _ (c .before .before .before .before .before .before .before .before .before .before .before .if3 .left), le-leb _ _ (c .before .before .before .before .before .before .before .before .before .if4 .left), le-leb _ _ (c .before .before .before .before .before .before .before .if5 .left), sturdy (c .before .before .before .before .before) ∙ not-false _ (c .before .before .before .before .if6 .left), le-leb _ _ (c .before .before .if7 .left), c .check .ensures)))
