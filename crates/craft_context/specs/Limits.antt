@@ -1,14 +1,15 @@
 -- The limits of document 01, field by field in order: of a context, and of what it is built from.
 -- Assumes nothing.
-use mathlib.Core.Bool.{Bool, false, _&&_}
+use mathlib.Core.Path.{_≡_}
+use mathlib.Core.Bool.{Bool, true, false, _&&_}
 use mathlib.Core.List.{List, [], _∷_}
-use Prim.Native.Nat.{ℕ}
+use Prim.Native.Nat.{ℕ, _≤_}
 use lib.Dec.{leb}
 use lib.IntN.{ℤ, pos, negsuc}
 use Rattle.refusal.specs.Judge.{Test}
 use Rattle.refusal.specs.declared.Refusal.the-variants.{OutsideLimits}
 use Rattle.action.specs.Limits.{factorMost, targetMost}
-use Rattle.action_set.specs.Set.{setTest}
+use Rattle.action_set.specs.Set.{Inside, setTest}
 use Rattle.craft_context.specs.declared.context.CraftContext.{CraftContext}
 use Rattle.craft_context.specs.declared.sheet.Player.{Player}
 use Rattle.craft_context.specs.declared.sheet.Recipe.{Recipe}
@@ -61,3 +62,14 @@ contextTests c =
     limitTest (leb (c .«cp_max») targetMost) ∷
     setTest (c .«action_pool» .0) ∷
     []
+
+-- what passed the tests of a context
+pub record ContextIn (c : CraftContext) : Type 0 where
+  pub baseProgress : c .«base_progress_factor» ≤ factorMost
+  pub baseQuality : c .«base_quality_factor» ≤ factorMost
+  pub progressTarget : c .«progress_target» ≤ targetMost
+  pub startingQuality : c .«starting_quality» ≤ targetMost
+  pub qualityTarget : c .«quality_target» ≤ targetMost
+  pub durability : durable (c .«durability_max») ≡ true
+  pub cpMax : c .«cp_max» ≤ targetMost
+  pub pool : Inside (c .«action_pool» .0)

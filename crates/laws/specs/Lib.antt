@@ -6,5 +6,6 @@ pub mod Bits
 pub mod BitLaws
 pub mod Walk
 pub mod Sign
+pub mod Raise
 pub mod Plus
 pub mod Small

@@ -50,12 +50,19 @@ unfolding judged
 alone t e = e
 
 -- a function that answers for several tests goes through them as an entry does
+module _ (tests rest : List Test) {checked : Checked} (e : checked ≡ checksOf tests) where
+  pub checks-stop-by : {x : Refusal} → checked ≡ Refused x → Refused x ≡ checksOf (tests ++ rest)
+  checks-stop-by s = stops Refused Passed rest tests (sym s ∙ e)
+
+  pub checks-on-by : {r : Checked} → checked ≡ Passed → r ≡ checksOf rest → r ≡ checksOf (tests ++ rest)
+  checks-on-by p f = f ∙ passes Refused Passed rest tests (sym p ∙ e)
+
 module _ (t : Test) (more : List Test) {checked : Checked} (e : checked ≡ checkedOf t) where
   pub checks-stop : {x : Refusal} → checked ≡ Refused x → Refused x ≡ checksOf (t ∷ more)
-  checks-stop s = stops Refused Passed more (t ∷ []) (sym s ∙ alone t e)
+  checks-stop s = checks-stop-by (t ∷ []) more (alone t e) s
 
   pub checks-on : {r : Checked} → checked ≡ Passed → r ≡ checksOf more → r ≡ checksOf (t ∷ more)
-  checks-on p f = f ∙ passes Refused Passed more (t ∷ []) (sym p ∙ alone t e)
+  checks-on p f = checks-on-by (t ∷ []) more (alone t e) p f
 
 -- what tests that passed have shown
 pub shown : (t : Test) (more : List Test) {checked : Checked} → checked ≡ checksOf (t ∷ more) → checked ≡ Passed → (t .passed ≡ true) × (checked ≡ checksOf more)
@@ -65,6 +72,14 @@ shown t more {checked} e p = by (t .passed) e
     by : (b : Bool) → checked ≡ cond b (checksOf more) (Refused (t .otherwise)) → (b ≡ true) × (checked ≡ checksOf more)
     by true e = (refl, e)
     by false e = absurd (refused-passed (sym e ∙ p))
+
+pub shown-by : (tests rest : List Test) {checked : Checked} → checked ≡ checksOf (tests ++ rest) → checked ≡ Passed → (checked ≡ checksOf tests) × (checked ≡ checksOf rest)
+unfolding judged
+shown-by [] rest e p = (p, e)
+shown-by (t ∷ more) rest e p =
+    let first = shown t (more ++ rest) e p in
+    let later = shown-by more rest (first .1) p in
+    (rw (first .0) (later .0), later .1)
 
 pub room-shown : {room needed : ℕ} {checked : Checked} → checked ≡ checkedOf (roomTest room needed) → checked ≡ Passed → needed ≤ room
 room-shown {room} {needed} e p = leb-true needed room (shown (roomTest room needed) [] (alone (roomTest room needed) e) p .0)

@@ -1,0 +1,4 @@
+pub mod Limits
+pub mod Inside
+pub mod InsideLaws
+pub mod Start
