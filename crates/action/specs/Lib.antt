@@ -7,6 +7,7 @@ pub mod KnownLaws
 pub mod Price
 pub mod Wear
 pub mod Gain
+pub mod GainLaws
 pub mod Wait
 pub mod Bounds
 pub mod BoundLaws

@@ -25,3 +25,8 @@ priceOf n combo base = cond (discountedBy n combo) discountPrice base
 abbrev pub chargedOf : ℕ → Combo → Amount → Amount
 chargedOf n combo (Of base) = Of (priceOf n combo base)
 chargedOf n combo Nothing = Nothing
+
+-- in points: no cost is 0 of them
+abbrev pub chargeOf : ℕ → Combo → Amount → ℕ
+chargeOf n combo (Of base) = priceOf n combo base
+chargeOf n combo Nothing = 0

@@ -7,9 +7,13 @@ use Prim.Native.Nat.{ℕ, _≤_}
 use native.Mathlib.Omega.{arith}
 use borrow.Author.Tests.{leb-true, le-leb}
 use lib.Dec.{leb}
+use lib.IntN.{ℤ}
 use lib.Signed.{leZ}
+use mir.Syntax.{w8}
+use mir.Val.{toZ, ofZ}
+use mir.ValLaws.{toZ-ofZ}
 use Rattle.laws.specs.Tests.{both, and-both}
-use Rattle.laws.specs.Raise.{le-raise, raise-le}
+use Rattle.laws.specs.Raise.{le-raise, raise-le, fits8}
 use Rattle.refusal.specs.declared.Checked.{Checked}
 use Rattle.refusal.specs.declared.Checked.the-variants.{Passed}
 use Rattle.refusal.specs.Judge.{checksOf}
@@ -78,3 +82,7 @@ given-in context state e p =
     let parts = shown-by (contextTests context) (stateTest context state ∷ []) e p in
     let inside = context-in context (parts .0) p in
     record { context = inside; state = state-in context state inside (shown (stateTest context state) [] (parts .1) p .0) }
+
+-- a byte that is read back from its bits is itself
+pub room-read : {d most : ℤ} → Room d most → (toZ w8 (ofZ w8 d) ≡ d) × (toZ w8 (ofZ w8 most) ≡ most)
+room-read {d} {most} r = (toZ-ofZ w8 d (fits8 d (omega arith) (omega arith)), toZ-ofZ w8 most (fits8 most (omega arith) (omega arith)))

@@ -23,6 +23,10 @@ use Rattle.craft_state.specs.declared.state.Last.the-variants as L
 abbrev pub stepLeast : ℕ
 stepLeast = 1
 
+-- the most of step and step_max, as of every byte
+abbrev pub stepMost : ℕ
+stepMost = 255
+
 -- -19
 abbrev pub durabilityLeast : ℤ
 durabilityLeast = negsuc 18

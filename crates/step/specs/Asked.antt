@@ -1,0 +1,48 @@
+-- What one action asks: a context and a state inside the limits, and what makes the action legal there.
+-- Assumes nothing.
+use Prim.Native.Nat.{ℕ, _≤_, _<_}
+use Rattle.laws.specs.Raise.{raise}
+use Rattle.action.specs.Known.{actions}
+use Rattle.action.specs.Limits.{amountMost, factorMost, targetMost, progressMost, qualityMost, quietMost}
+use Rattle.action.specs.Amount.{AtMost}
+use Rattle.action.specs.Price.{priceOf}
+use Rattle.action.specs.declared.table.Amount.{Amount}
+use Rattle.action.specs.declared.table.Amount.the-variants.{Of, Nothing}
+use Rattle.action.specs.declared.table.Attributes.{Attributes}
+use Rattle.action.specs.declared.price.Combo.{Combo}
+use Rattle.craft_context.specs.declared.context.CraftContext.{CraftContext}
+use Rattle.craft_state.specs.declared.state.CraftState.{CraftState}
+use Rattle.craft_state.specs.Inside.{Room, Given}
+
+-- said of an attribute where there is one
+abbrev pub Where : Amount → Type 0 → Type 0
+Where (Of amount) holds = holds
+Where Nothing holds = Unit {0}
+
+-- the price charged is at most the points
+abbrev pub Payable : ℕ → Combo → ℕ → Amount → Type 0
+Payable cp combo n (Of cost) = priceOf n combo cost ≤ cp
+Payable cp combo n Nothing = Unit {0}
+
+-- what a legal action rests on, by its row
+pub record Playable (c : CraftContext) (s : CraftState) (n : ℕ) (row : Attributes) : Type 0 where
+  pub given : Given c s
+  pub known : n < actions
+  pub below : s .progress < c .«progress_target»
+  pub early : s .step < c .«step_max»
+  pub alive : 1001 ≤ raise (s .durability)
+  pub quality : Where (row .«quality_efficiency») (s .quality < c .«quality_target»)
+  pub payable : Payable (s .cp) (s .«previous_combo_action») n (row .«cp_cost»)
+
+-- ---- what its parts ask
+
+pub record Progressing (c : CraftContext) (s : CraftState) (efficiency : Amount) : Type 0 where
+  pub row : AtMost progressMost efficiency
+  pub factor : c .«base_progress_factor» ≤ factorMost
+  pub progress : s .progress ≤ amountMost
+
+pub record Touching (c : CraftContext) (s : CraftState) : Type 0 where
+  pub factor : c .«base_quality_factor» ≤ factorMost
+  pub target : c .«quality_target» ≤ targetMost
+  pub quality : s .quality ≤ amountMost
+  pub quiet : s .buffs .«inner_quiet» ≤ quietMost

@@ -1,0 +1,6 @@
+pub mod Durability
+pub mod Parts
+pub mod Step
+pub mod Asked
+pub mod PartLaws
+pub mod StepLaws

@@ -1,0 +1,9 @@
+// One action on a state, as a chain of small functions in document 01's order.
+mod combos;
+mod durability;
+mod effects;
+mod progress;
+mod quality;
+mod whole;
+
+pub use whole::execute;
