@@ -43,7 +43,7 @@ fn spend(perfection: Perfection, cost: u32) -> Perfection
 }
 
 // What a cost comes to in this state.
-fn wears(state: CraftState, cost: u32) -> u32
+pub fn wears(state: CraftState, cost: u32) -> u32
     requires { ⌜ cost ≤ durabilityMost ⌝ }
     ensures { λ r. ⌜ (r ≡ wear state cost) × (r ≤ durabilityMost) ⌝ }
 {

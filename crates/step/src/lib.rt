@@ -6,4 +6,6 @@ mod progress;
 mod quality;
 mod whole;
 
+pub use combos::on_basic_touch;
+pub use durability::wears;
 pub use whole::execute;

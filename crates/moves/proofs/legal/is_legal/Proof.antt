@@ -1,0 +1,25 @@
+-- `moves::legal::is_legal` meets its contract.
+-- Assumes nothing.
+use mathlib.Core.Path.{sym, _∙_}
+use Rattle.moves.specs.MoveLaws.{has-moves}
+use Rattle.moves.proofs.legal.is_legal.Statement.{statement}
+use Rattle.moves.proofs.legal.is_legal.Tie as tie
+
+pub is-legal-spec : {M : Type 1} → statement M
+is-legal-spec =
+    tie.close
+    (tie.spec
+    (λ c κs. tt)
+    (λ c. let s = c .before .before in simp (has-moves (s .args .context) (s .args .state) (s .args .mode) (s .args .n) (s .pre .1), sym (c .before .has-ended .ensures) ∙ c .if1 .taken))
+    (λ c κs. c .before .before .before .pre .1)
+    (λ c κs. c .before .before .before .before .before .pre)
+    (λ c.
+    let h = c .before .before in
+    let e = h .before .before in
+    let s = e .before .before in
+    c .allows .ensures ∙ simp (has-moves (s .args .context) (s .args .state) (s .args .mode) (s .args .n) (s .pre .1), sym (e .before .has-ended .ensures) ∙ e .if1 .left, sym (h .holds .ensures) ∙ c .before .if2 .taken))
+    (λ c.
+    let h = c .before in
+    let e = h .before .before in
+    let s = e .before .before in
+    simp (has-moves (s .args .context) (s .args .state) (s .args .mode) (s .args .n) (s .pre .1), sym (e .before .has-ended .ensures) ∙ e .if1 .left, sym (h .holds .ensures) ∙ c .if2 .left)))

@@ -1,0 +1,13 @@
+-- `moves::own::lost` meets its contract.
+-- Assumes nothing.
+use native.Mathlib.Omega.{arith}
+use Rattle.laws.specs.Raise.{sub8, sub8-is}
+use Rattle.moves.proofs.own.lost.Statement.{statement}
+use Rattle.moves.proofs.own.lost.Tie as tie
+
+pub lost-spec : {M : Type 1} → statement M
+lost-spec =
+    tie.close
+    (tie.spec
+    (λ c. sub8 _ _ (c .fits .most) (c .fits .durability) (omega arith) (omega arith))
+    (λ c. sub8-is _ _ (c .fits .most) (c .fits .durability) (omega arith) (omega arith)))

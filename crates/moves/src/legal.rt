@@ -1,0 +1,59 @@
+// The legal moves of a state, and whether one candidate is among them.
+ghost use mathlib.Core.Path.{_≡_};
+ghost use Prim.Native.Nat.{_<_};
+ghost use Rattle.laws.specs.Bits.{has};
+ghost use Rattle.action.specs.Known.{actions};
+ghost use Rattle.action_set.specs.Set.{Inside};
+ghost use Rattle.craft_state.specs.Inside.{Given};
+ghost use Rattle.moves.specs.Moves.{ended, movesOf};
+use super::candidate::allows;
+use super::mode::Mode;
+use action_set::bits;
+use craft_context::CraftContext;
+use craft_state::CraftState;
+
+// Progress is at its target, no step is left, or no durability.
+pub fn has_ended(context: CraftContext, state: CraftState) -> bool
+    ensures { λ r. ⌜ r ≡ ended context state ⌝ }
+{
+    (state.progress >= context.progress_target)
+        | (state.step >= context.step_max)
+        | (state.durability <= 0)
+}
+
+// One candidate: the same as looking it up in the moves.
+pub fn is_legal(context: CraftContext, state: CraftState, mode: Mode, n: u8) -> bool
+    requires { ⌜ Given context state × (n < actions) ⌝ }
+    ensures { λ r. ⌜ r ≡ has (movesOf context state mode) n ⌝ }
+{
+    if has_ended(context, state) {
+        return false;
+    }
+    let pool = context.action_pool;
+    if bits::holds(pool.0, n) {
+        return allows(context, state, mode, n);
+    }
+    false
+}
+
+// The walk over the pool.
+pub fn legal_moves(context: CraftContext, state: CraftState, mode: Mode) -> u32
+    requires { ⌜ Given context state ⌝ }
+    ensures { λ r. ⌜ (r ≡ movesOf context state mode) × Inside r ⌝ }
+{
+    if has_ended(context, state) {
+        return 0;
+    }
+    let pool = context.action_pool;
+    let mut kept = pool.0;
+    let mut remaining = pool.0;
+    while remaining != 0 {
+        let n = bits::next(remaining);
+        let b = bits::bit(n);
+        remaining -= b;
+        if !allows(context, state, mode, n) {
+            kept -= b;
+        }
+    }
+    kept
+}

@@ -1,0 +1,12 @@
+// Legal moves, in plain and in strict mode.
+mod candidate;
+mod legal;
+mod mode;
+mod own;
+mod strict;
+
+pub use candidate::allows;
+pub use legal::has_ended;
+pub use legal::is_legal;
+pub use legal::legal_moves;
+pub use mode::Mode;
