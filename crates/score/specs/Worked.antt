@@ -1,0 +1,2 @@
+-- Scores worked out from the definitions.
+-- Assumes nothing.

@@ -1,0 +1,4 @@
+// The score of a craft.
+mod scoring;
+
+pub use scoring::score;
