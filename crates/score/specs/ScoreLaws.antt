@@ -1,11 +1,11 @@
 -- No score is a NaN: each part and their sum are bounded, but for step_max 0, which gives minus infinity. And zero of zero earns the full bonus.
 -- Assumes nothing.
-use mathlib.Core.Path.{_≡_, refl, ap, _∙_}
+use mathlib.Core.Path.{_≡_, refl, ap}
 use mathlib.Core.Bool.{Bool, true, false, not, cond}
 use Prim.Native.Nat.{ℕ, zero, suc, _-_, _*_, _≤_, _<_}
 use native.Mathlib.Nat.{le-trans, zero-lt-suc}
 use native.Mathlib.Omega.{arith}
-use lib.Dec.{T, eqb, lit≤, lit<}
+use lib.Dec.{T, eqb, lit≤}
 use lib.IntN.{ℤ, pos, negsuc}
 use lib.Ieee.{Float, inf, binary32, ofBits, ofInt, add, sub, mul, div, lt, isNan}
 use lib.Ieee.Exact.{HasValue}
@@ -95,51 +95,50 @@ durability-part-small d (negsuc n) r = absurd (none n (r .above))
     none n h = omega arith
 durability-part-small (pos a) (pos n) r = small-more (partOf durabilityBonus (float a) (float n)) 1 19 (lit≤ tt) (part-small durabilityBonus a n durability-small)
 durability-part-small (negsuc a) (pos n) r =
-    let value : Small (ofInt binary32 (negsuc a)) (19 * n) =
-    small-more (ofInt binary32 (negsuc a)) 19 (19 * n) (omega (arith, r .above)) (of-neg-small binary32 a 19 (omega (arith, r .from)) (lit≤ tt)) in
+    let value : Small (ofInt binary32 (negsuc a)) 19 = of-neg-small binary32 a 19 (omega (arith, r .from)) (lit≤ tt) in
+    let wide : Small (ofInt binary32 (negsuc a)) (19 * n) = small-more (ofInt binary32 (negsuc a)) 19 (19 * n) (omega (arith, r .above)) value in
     let target : HasValue (float n) false n 1 = of-nat-value binary32 n (omega (arith, r .top)) in
     mul-small binary32 durabilityBonus _ 1 19 (lit≤ tt) durability-small
-    (capped-keeps _ 19 (lit≤ tt) (div-small binary32 _ _ 19 n (lit≤ tt) (omega (arith, r .above)) target value))
+    (capped-keeps _ 19 (lit≤ tt) (div-small binary32 _ _ 19 n (lit≤ tt) (omega (arith, r .above)) target wide))
 
--- ---- the last part: minus infinity where step_max is 0
-
-fewer-none : (step : ℕ) → 0 < step → step ≤ 255 → fewerOf step 0 ≡ inf true
-unfolding ofInt sub ofBits
-fewer-none step started byte =
-    ap (sub binary32 one) (over-zero binary32 (float step) step started (of-nat-value binary32 step (le-trans byte (lit≤ tt))))
-
-fewer-small : (step most : ℕ) → 0 < most → step ≤ 255 → most ≤ 255 → Small (fewerOf step most) 256
-fewer-small step most some byte top =
-    let value : Small (float step) (255 * most) = small-more (float step) 255 (255 * most) (omega arith) (of-nat-small binary32 step 255 byte (lit≤ tt)) in
-    let target : HasValue (float most) false most 1 = of-nat-value binary32 most (le-trans top (lit≤ tt)) in
-    sub-small binary32 one _ 1 255 (lit≤ tt) one-small (div-small binary32 _ _ 255 most (lit≤ tt) some target value)
-
-fewer-no-nan : (step most : ℕ) → 0 < step → step ≤ 255 → most ≤ 255 → T (not (isNan (fewerOf step most)))
-unfolding isNan
-fewer-no-nan step zero started byte top = rw (fewer-none step started byte) tt
-fewer-no-nan step (suc n) started byte top = small-no-nan (fewerOf step (suc n)) 256 (fewer-small step (suc n) (zero-lt-suc n) byte top)
+-- ---- the last part, beside what the other four add up to: minus infinity where step_max is 0
 
 abbrev lastOf : ℕ → ℕ → Float
 lastOf step most = mul binary32 fewerStepsBonus (fewerOf step most)
 
-bonus-none : mul binary32 fewerStepsBonus (inf true) ≡ inf true
+bonus-minus-inf : mul binary32 fewerStepsBonus (inf true) ≡ inf true
 unfolding mul ofBits
-bonus-none = refl
+bonus-minus-inf = refl
 
--- beside what the other four parts add up to
-last-none : (x : Float) (step : ℕ) → Small x 22 → 0 < step → step ≤ 255 → add binary32 x (lastOf step 0) ≡ inf true
-last-none x step p started byte = rw (fewer-none step started byte, bonus-none) (add-minus-inf binary32 x 22 p)
+module _ (step : ℕ) (started : 0 < step) (byte : step ≤ 255) where
+  fewer-minus-inf : fewerOf step 0 ≡ inf true
+  unfolding ofInt sub ofBits
+  fewer-minus-inf = ap (sub binary32 one) (over-zero binary32 (float step) step started (of-nat-value binary32 step (le-trans byte (lit≤ tt))))
 
-last-no-nan : (x : Float) (step most : ℕ) → Small x 22 → 0 < step → step ≤ 255 → most ≤ 255 → T (not (isNan (add binary32 x (lastOf step most))))
-unfolding isNan
-last-no-nan x step zero p started byte top = rw (last-none x step p started byte) tt
-last-no-nan x step (suc n) p started byte top =
-    let last : Small (lastOf step (suc n)) 256 = mul-small binary32 fewerStepsBonus _ 1 256 (lit≤ tt) fewer-steps-small (fewer-small step (suc n) (zero-lt-suc n) byte top) in
-    small-no-nan (add binary32 x (lastOf step (suc n))) 278 (add-small binary32 x (lastOf step (suc n)) 22 256 (lit≤ tt) p last)
+  last-minus-inf : (x : Float) → Small x 22 → add binary32 x (lastOf step 0) ≡ inf true
+  last-minus-inf x p = rw (fewer-minus-inf, bonus-minus-inf) (add-minus-inf binary32 x 22 p)
+
+  fewer-small : (most : ℕ) → 0 < most → most ≤ 255 → Small (fewerOf step most) 256
+  fewer-small most some top =
+      let value : Small (float step) (255 * most) = small-more (float step) 255 (255 * most) (omega arith) (of-nat-small binary32 step 255 byte (lit≤ tt)) in
+      let target : HasValue (float most) false most 1 = of-nat-value binary32 most (le-trans top (lit≤ tt)) in
+      sub-small binary32 one _ 1 255 (lit≤ tt) one-small (div-small binary32 _ _ 255 most (lit≤ tt) some target value)
+
+  fewer-no-nan : (most : ℕ) → most ≤ 255 → T (not (isNan (fewerOf step most)))
+  unfolding isNan
+  fewer-no-nan zero top = rw fewer-minus-inf tt
+  fewer-no-nan (suc n) top = small-no-nan (fewerOf step (suc n)) 256 (fewer-small (suc n) (zero-lt-suc n) top)
+
+  last-no-nan : (x : Float) (most : ℕ) → Small x 22 → most ≤ 255 → T (not (isNan (add binary32 x (lastOf step most))))
+  unfolding isNan
+  last-no-nan x zero p top = rw (last-minus-inf x p) tt
+  last-no-nan x (suc n) p top =
+      let last : Small (lastOf step (suc n)) 256 = mul-small binary32 fewerStepsBonus _ 1 256 (lit≤ tt) fewer-steps-small (fewer-small (suc n) (zero-lt-suc n) top) in
+      small-no-nan (add binary32 x (lastOf step (suc n))) 278 (add-small binary32 x (lastOf step (suc n)) 22 256 (lit≤ tt) p last)
 
 -- ---- the score
 
--- the other four parts add up to 22 at most
+-- the other four parts add up to 1 + 1 + 19 + 1 at most
 weighed-last : (context : CraftContext) (state : CraftState) → Given context state → (P : Float → Type 0)
     → ((x : Float) → Small x 22 → P (add binary32 x (lastOf (state .step) (context .«step_max»))))
     → P (weighedOf context state)
@@ -156,13 +155,13 @@ weighed-last context state given P last =
 
 module _ (context : CraftContext) (state : CraftState) (given : Given context state) (byte : state .step ≤ 255) where
   -- step_max 0 gives minus infinity
-  pub score-none : context .«step_max» ≡ 0 → scoreOf context state ≡ inf true
+  pub score-minus-inf : context .«step_max» ≡ 0 → scoreOf context state ≡ inf true
   unfolding scoreOf
-  score-none none = go (eqb (context .«quality_target») 0)
+  score-minus-inf no-steps = go (eqb (context .«quality_target») 0)
     where
       go : (t : Bool) → cond t (fewerOf (state .step) (context .«step_max»)) (weighedOf context state) ≡ inf true
-      go true = rw none (fewer-none (state .step) (given .state .step) byte)
-      go false = weighed-last context state given (λ x. x ≡ inf true) (λ x p. rw none (last-none x (state .step) p (given .state .step) byte))
+      go true = rw no-steps (fewer-minus-inf (state .step) (given .state .step) byte)
+      go false = weighed-last context state given (λ x. x ≡ inf true) (λ x p. rw no-steps (last-minus-inf (state .step) (given .state .step) byte x p))
 
   -- THE theorem: no score is a NaN
   pub score-no-nan : context .«step_max» ≤ 255 → T (not (isNan (scoreOf context state)))
@@ -170,5 +169,5 @@ module _ (context : CraftContext) (state : CraftState) (given : Given context st
   score-no-nan top = go (eqb (context .«quality_target») 0)
     where
       go : (t : Bool) → T (not (isNan (cond t (fewerOf (state .step) (context .«step_max»)) (weighedOf context state))))
-      go true = fewer-no-nan (state .step) (context .«step_max») (given .state .step) byte top
-      go false = weighed-last context state given (λ x. T (not (isNan x))) (λ x p. last-no-nan x (state .step) (context .«step_max») p (given .state .step) byte top)
+      go true = fewer-no-nan (state .step) (given .state .step) byte (context .«step_max») top
+      go false = weighed-last context state given (λ x. T (not (isNan x))) (λ x p. last-no-nan (state .step) (given .state .step) byte x (context .«step_max») p top)

@@ -1,4 +1,4 @@
-// The score of a craft.
+// The score of a craft in a state.
 mod scoring;
 
 pub use scoring::score;

@@ -37,7 +37,7 @@ fn part(bonus: f32, value: f32, target: f32) -> f32
     bonus * capped(value / target)
 }
 
-// The part of a whole number.
+// A part of whole numbers.
 fn whole_part(bonus: f32, value: u32, target: u32) -> f32
     ensures { λ r. ⌜ r ≡ partOf bonus (float value) (float target) ⌝ }
 {
@@ -48,14 +48,14 @@ fn whole_part(bonus: f32, value: u32, target: u32) -> f32
     )
 }
 
-// The steps that are left, of all.
+// The share of the steps that is left: minus infinity where step_max is 0, since a step is at least 1.
 fn fewer_steps(step: u8, step_max: u8) -> f32
     ensures { λ r. ⌜ r ≡ fewerOf step «step_max» ⌝ }
 {
     1.0 - step as f32 / step_max as f32
 }
 
-// Added from left to right, which is where each sum is rounded.
+// Each sum is rounded, so the parts are added from left to right.
 fn weighed(context: CraftContext, state: CraftState) -> f32
     ensures { λ r. ⌜ r ≡ weighedOf context state ⌝ }
 {

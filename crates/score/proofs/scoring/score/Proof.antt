@@ -11,9 +11,9 @@ use Rattle.score.specs.ScoreLaws.{score-no-nan}
 use Rattle.score.proofs.scoring.score.Statement.{statement}
 use Rattle.score.proofs.scoring.score.Tie as tie
 
--- the arguments' own types bound the steps
-no-nan : (c : tie.Start) {r : Float} → r ≡ scoreOf (c .args .context) (c .args .state) → T (not (isNan r))
-no-nan c e = rw e (score-no-nan (c .args .context) (c .args .state) (c .pre) (omega arith) (omega arith))
+-- an answer that is the score is no NaN: the steps are at most 255 by their type
+told : (c : tie.Start) {r : Float} → r ≡ scoreOf (c .args .context) (c .args .state) → (r ≡ scoreOf (c .args .context) (c .args .state)) × T (not (isNan r))
+told c e = (e, rw e (score-no-nan (c .args .context) (c .args .state) (c .pre) (omega arith) (omega arith)))
 
 pub score-spec : {M : Type 1} → statement M
 unfolding scoreOf
@@ -21,6 +21,6 @@ score-spec =
     tie.close
     (tie.spec
     (λ c κs. tt)
-    (λ c. let e : c .fewer-steps .result ≡ scoreOf (c .before .before .before .args .context) (c .before .before .before .args .state) = simp (eq-eqb _ _ (c .before .if1 .taken), c .fewer-steps .ensures) in (e, no-nan (c .before .before .before) e))
+    (λ c. told (c .before .before .before) (simp (eq-eqb _ _ (c .before .if1 .taken), c .fewer-steps .ensures)))
     (λ c κs. tt)
-    (λ c. let e : c .weighed .result ≡ scoreOf (c .before .before .before .args .context) (c .before .before .before .args .state) = simp (ne-eqb _ _ (c .before .if1 .left), c .weighed .ensures) in (e, no-nan (c .before .before .before) e)))
+    (λ c. told (c .before .before .before) (simp (ne-eqb _ _ (c .before .if1 .left), c .weighed .ensures))))

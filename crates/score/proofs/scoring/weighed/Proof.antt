@@ -8,7 +8,7 @@ use Rattle.score.specs.Score.{weighedOf}
 use Rattle.score.proofs.scoring.weighed.Statement.{statement}
 use Rattle.score.proofs.scoring.weighed.Tie as tie
 
--- the signed fields are what was passed on
+-- the signed fields fit their byte, so they are what was passed on
 level : (c : tie.Start) → SFits w8 (c .args .state .durability)
 level c = search needs
 
