@@ -9,3 +9,4 @@ pub mod Sign
 pub mod Raise
 pub mod Plus
 pub mod Small
+pub mod NoNan

@@ -6,13 +6,14 @@ use Prim.Native.Nat.{ℕ, zero, suc, _+_, _-_, _*_, _/_, _^_, _≤_, _<_, min, z
 use native.Mathlib.Nat.{le-trans, le-of-eq, le-of-lt, lt-of-le-of-lt, mul-assoc, mul-comm, mul-right-comm, mul-one, one-mul, zero-mul, add-mul, mul-le-mul, mul-le-mul-right, mul-lt-mul-of-pos-right, le-of-mul-le-mul-right, mul-mul-mul-comm, mul-pos, zero-lt-suc, min-le-left, min-eq-left, div-le-of-le-mul}
 use native.Mathlib.Omega.{arith}
 use lib.Dec.{T, ltb, eqb, ltb→lt, lt→ltb, eqb→eq, eqb·suc-zero}
-use lib.IntN.{ℤ, pos}
+use lib.IntN.{ℤ, pos, negsuc}
 use lib.Pow.{pow-pos}
-use lib.Ieee.{Float, nan, inf, fin, Format, prec, emax, low, up, down, unlike, odd, units, round, sum, add, mul, div, lt, eq, le, ofInt, toUnsigned}
+use lib.Ieee.{Float, nan, inf, fin, Format, prec, emax, low, up, down, unlike, odd, units, round, sum, add, sub, neg, mul, div, lt, eq, le, ofInt, toUnsigned}
 use lib.Ieee.Fits.{round-is, up-pos, down-pos}
 use lib.Ieee.Exact.{HasValue}
 use lib.Ieee.Order.{round-mono, kept, drop}
 use lib.Ieee.Back.{round-whole}
+use Rattle.laws.specs.Tests.{or-left}
 use Rattle.laws.specs.Plus.{Plus, plus-round}
 
 abbrev pub Small : Float → ℕ → Type 0
@@ -52,6 +53,10 @@ under-whole (fin false m e) (fin false n d) b p w h =
     let cross : m * up e * down d ≤ n * up d * down e = or-le (m * up e * down d) (n * up d * down e) _ h in
     le-of-mul-le-mul-right (le-trans cross (le-of-eq (ap (λ (z : ℕ). z * down e) y-is ∙ mul-right-comm b (down d) (down e)))) (down-pos d)
 
+pub below-whole : (x y : Float) (b : ℕ) → Plus x → HasValue y false b 1 → T (lt x y) → Small x b
+unfolding le
+below-whole x y b p w h = under-whole x y b p w (or-left (lt x y) (eq x y) h)
+
 -- the size does not turn on the sign
 either-sign : (f : Format) (s : Bool) (q k b : ℕ) → Small (units f false q k) b → Small (units f s q k) b
 unfolding units odd
@@ -76,6 +81,10 @@ round-small f s a c b C B h =
 pub of-nat-small : (f : Format) (n b : ℕ) → n ≤ b → b ≤ 2 ^ prec f → Small (ofInt f (pos n)) b
 unfolding ofInt
 of-nat-small f n b h B = round-small f false n 1 b (pow-pos 0) B (le-trans h (le-of-eq (sym (mul-one b))))
+
+pub of-neg-small : (f : Format) (n b : ℕ) → n < b → b ≤ 2 ^ prec f → Small (ofInt f (negsuc n)) b
+unfolding ofInt
+of-neg-small f n b h B = round-small f true (suc n) 1 b (pow-pos 0) B (le-trans h (le-of-eq (sym (mul-one b))))
 
 pub of-nat-value : (f : Format) (n : ℕ) → n ≤ 2 ^ prec f → HasValue (ofInt f (pos n)) false n 1
 unfolding ofInt
@@ -103,6 +112,16 @@ add-small f (fin s m e) (fin t n g) b d B p q =
     sum-small f s (m * up e * down g) t (n * up g * down e) (down e * down g) b d (mul-pos (down-pos e) (down-pos g)) B
     (le-trans (mul-le-mul-right (down g) p) (le-of-eq (mul-assoc b (down e) (down g))))
     (le-trans (mul-le-mul-right (down e) q) (le-of-eq (mul-assoc d (down g) (down e) ∙ ap (λ (z : ℕ). d * z) (mul-comm (down g) (down e)))))
+
+neg-small : (x : Float) (b : ℕ) → Small x b → Small (neg x) b
+unfolding neg
+neg-small nan b p = p
+neg-small (inf s) b p = p
+neg-small (fin s m e) b p = p
+
+pub sub-small : (f : Format) (x y : Float) (b d : ℕ) → b + d ≤ 2 ^ prec f → Small x b → Small y d → Small (sub f x y) (b + d)
+unfolding sub
+sub-small f x y b d B p q = add-small f x (neg y) b d B p (neg-small y d q)
 
 pub mul-small : (f : Format) (x y : Float) (b d : ℕ) → b * d ≤ 2 ^ prec f → Small x b → Small y d → Small (mul f x y) (b * d)
 unfolding mul

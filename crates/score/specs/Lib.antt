@@ -1,0 +1,4 @@
+pub mod Score
+pub mod ScoreLaws
+pub mod Result
+pub mod Worked

@@ -1,0 +1,49 @@
+-- The result of a state, checked in document 01's order, with the moves of the call's mode.
+-- Assumes nothing.
+use mathlib.Core.Bool.{cond, not}
+use mathlib.Core.List.{List, [], _∷_}
+use Prim.Native.Nat.{ℕ}
+use lib.Dec.{T, eqb, leb}
+use lib.Ieee.{Float, isNan}
+use lib.IntN.{pos}
+use lib.Signed.{leZ}
+use Rattle.craft_context.specs.declared.context.CraftContext.{CraftContext}
+use Rattle.craft_state.specs.declared.state.CraftState.{CraftState}
+use Rattle.moves.specs.Moves.{movesOf}
+use Rattle.moves.specs.declared.mode.Mode.{Mode}
+use Rattle.score.specs.Score.{scoreOf}
+use Rattle.score.specs.declared.result.CraftResult.{CraftResult}
+use Rattle.score.specs.declared.result.CraftResult.the-variants as R
+
+-- finished, durability failure, max steps failure, invalid (no moves), continuing
+unfoldable pub judgedBy : CraftContext → CraftState → ℕ → CraftResult
+judgedBy c s moves =
+    cond (leb (c .«progress_target») (s .progress)) (R.Finished (scoreOf c s))
+    (cond (leZ (s .durability) (pos 0)) R.DurabilityFailure (cond (leb (c .«step_max») (s .step)) R.MaxStepsFailure (cond (eqb moves 0) R.InvalidActionFailure R.Continuing)))
+
+abbrev pub resultOf : CraftContext → CraftState → Mode → CraftResult
+resultOf c s mode = judgedBy c s (movesOf c s mode)
+
+-- ---- document 01's number and value for each case
+
+abbrev pub verdictOf : CraftResult → ℕ
+verdictOf (R.Finished score) = 0
+verdictOf R.DurabilityFailure = 1
+verdictOf R.MaxStepsFailure = 2
+verdictOf R.InvalidActionFailure = 3
+verdictOf R.Continuing = 4
+
+abbrev pub scoresIn : CraftResult → List Float
+scoresIn (R.Finished score) = score ∷ []
+scoresIn R.DurabilityFailure = []
+scoresIn R.MaxStepsFailure = []
+scoresIn R.InvalidActionFailure = []
+scoresIn R.Continuing = []
+
+-- the score in a result is no NaN
+abbrev pub Sound : CraftResult → Type 0
+Sound (R.Finished score) = T (not (isNan score))
+Sound R.DurabilityFailure = Unit {0}
+Sound R.MaxStepsFailure = Unit {0}
+Sound R.InvalidActionFailure = Unit {0}
+Sound R.Continuing = Unit {0}

@@ -1,0 +1,61 @@
+-- The score of a state, in the logic's account of IEEE 754: every operation is rounded to binary32.
+-- Assumes nothing.
+use mathlib.Core.Bool.{cond}
+use Prim.Native.Nat.{ℕ}
+use lib.Dec.{eqb}
+use lib.Ieee.{Float, binary32, ofBits, ofInt, add, sub, mul, div, lt}
+use Rattle.craft_context.specs.declared.context.CraftContext.{CraftContext}
+use Rattle.craft_context.specs.Factor.{float}
+use Rattle.craft_state.specs.declared.state.CraftState.{CraftState}
+
+-- 1.0, an f32 of the source
+abbrev pub one : Float
+one = ofBits binary32 0x3f80_0000
+
+-- ---- the bonuses: 0.20, 0.65, 0.05, 0.05, 0.05
+
+abbrev pub progressBonus : Float
+progressBonus = ofBits binary32 0x3e4c_cccd
+
+abbrev pub qualityBonus : Float
+qualityBonus = ofBits binary32 0x3f26_6666
+
+abbrev pub durabilityBonus : Float
+durabilityBonus = ofBits binary32 0x3d4c_cccd
+
+abbrev pub cpBonus : Float
+cpBonus = ofBits binary32 0x3d4c_cccd
+
+abbrev pub fewerStepsBonus : Float
+fewerStepsBonus = ofBits binary32 0x3d4c_cccd
+
+-- ---- the parts
+
+-- min(1, quotient): 1 unless the quotient is below it, so 1 where it is a NaN
+abbrev pub cappedOf : Float → Float
+cappedOf quotient = cond (lt quotient one) quotient one
+
+abbrev pub partOf : Float → Float → Float → Float
+partOf bonus value target = mul binary32 bonus (cappedOf (div binary32 value target))
+
+-- 1 - step / step_max
+abbrev pub fewerOf : ℕ → ℕ → Float
+fewerOf step most = sub binary32 one (div binary32 (float step) (float most))
+
+-- added from left to right
+unfoldable pub weighedOf : CraftContext → CraftState → Float
+weighedOf context state =
+    add binary32
+    (add binary32
+    (add binary32
+    (add binary32
+    (partOf progressBonus (float (state .progress)) (float (context .«progress_target»)))
+    (partOf qualityBonus (float (state .quality)) (float (context .«quality_target»))))
+    (partOf durabilityBonus (ofInt binary32 (state .durability)) (ofInt binary32 (context .«durability_max»))))
+    (partOf cpBonus (float (state .cp)) (float (context .«cp_max»))))
+    (mul binary32 fewerStepsBonus (fewerOf (state .step) (context .«step_max»)))
+
+-- without a quality target the steps alone count
+unfoldable pub scoreOf : CraftContext → CraftState → Float
+scoreOf context state =
+    cond (eqb (context .«quality_target») 0) (fewerOf (state .step) (context .«step_max»)) (weighedOf context state)

@@ -1,0 +1,8 @@
+// The score of a craft in a state, and the state's result.
+mod result;
+mod scoring;
+
+pub use result::CraftResult;
+pub use result::check_result;
+pub use result::judge;
+pub use scoring::score;

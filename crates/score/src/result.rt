@@ -1,0 +1,46 @@
+// The result of a state, by document 01's order.
+ghost use mathlib.Core.Path.{_≡_};
+ghost use Rattle.craft_state.specs.Inside.{Given};
+ghost use Rattle.score.specs.Result.{judgedBy, resultOf, Sound};
+use super::scoring::score;
+use craft_context::CraftContext;
+use craft_state::CraftState;
+use moves::Mode;
+
+pub enum CraftResult {
+    // Progress is at its target: the score.
+    Finished(f32),
+    DurabilityFailure,
+    MaxStepsFailure,
+    // No move is left, or an illegal action was given.
+    InvalidActionFailure,
+    Continuing,
+}
+
+// By the state's legal moves.
+pub fn judge(context: CraftContext, state: CraftState, moves: u32) -> CraftResult
+    requires { ⌜ Given context state ⌝ }
+    ensures { λ r. ⌜ (r ≡ judgedBy context state moves) × Sound r ⌝ }
+{
+    if state.progress >= context.progress_target {
+        return CraftResult::Finished(score(context, state));
+    }
+    if state.durability <= 0 {
+        return CraftResult::DurabilityFailure;
+    }
+    if state.step >= context.step_max {
+        return CraftResult::MaxStepsFailure;
+    }
+    if moves == 0 {
+        return CraftResult::InvalidActionFailure;
+    }
+    CraftResult::Continuing
+}
+
+// The moves are worked out anew, in the mode of the call.
+pub fn check_result(context: CraftContext, state: CraftState, mode: Mode) -> CraftResult
+    requires { ⌜ Given context state ⌝ }
+    ensures { λ r. ⌜ (r ≡ resultOf context state mode) × Sound r ⌝ }
+{
+    judge(context, state, moves::legal_moves(context, state, mode))
+}
