@@ -1,7 +1,8 @@
 // The public face of the engine. Every entry takes any numbers and bytes, and refuses what is outside the limits by document 01's numbers.
-// The entries over sets and contexts are the methods of `ActionSet` and `CraftContext`.
+// The entries over sets and contexts are the methods of `ActionSet` and `CraftContext`; a craft starts by `CraftState::new`.
 mod actions;
 mod room;
+mod states;
 
 pub use action::Amount;
 pub use action::Attributes;
@@ -29,8 +30,23 @@ pub use craft_context::CraftOptions;
 pub use craft_context::Given;
 pub use craft_context::Player;
 pub use craft_context::Recipe;
+pub use craft_state::Buffs;
+pub use craft_state::CraftState;
+pub use craft_state::Last;
+pub use craft_state::Perfection;
+pub use craft_state::Started;
+pub use moves::Mode;
 pub use refusal::Also;
 pub use refusal::Checked;
 pub use refusal::Refusal;
 pub use refusal::Report;
 pub use room::Written;
+pub use score::CraftResult;
+pub use states::Allowed;
+pub use states::Judged;
+pub use states::Scored;
+pub use states::Stepped;
+pub use states::moves;
+pub use states::result;
+pub use states::score;
+pub use states::step;

@@ -1,0 +1,24 @@
+-- `crafty::states::result` meets its contract.
+-- Assumes nothing.
+use mathlib.Core.Path.{refl, ap}
+use mathlib.Core.List.{[]}
+use borrow.Author.Needs.{needs}
+use Rattle.refusal.specs.JudgeLaws.{stopped-by, onward-by, answered}
+use Rattle.craft_state.specs.Limits.{givenTests}
+use Rattle.craft_state.specs.InsideLaws.{given-in}
+use Rattle.crafty.specs.declared.states.Judged.the-variants.{Result}
+use Rattle.crafty.proofs.states.result.Statement.{statement}
+use Rattle.crafty.proofs.states.result.Tie as tie
+
+pub result-spec : {M : Type 1} → statement M
+result-spec =
+    tie.close
+    (tie.spec
+    (λ c κs. tt)
+    (λ c. search needs)
+    (λ c. let k = c .before .before .before in (stopped-by (givenTests (k .before .args .context) (k .before .args .state)) [] (k .check .ensures) (c .before .given .given .1), tt))
+    (λ c. search needs)
+    (λ c κs. given-in _ _ (c .before .before .check .ensures) (c .enum-told .given .1))
+    (λ c.
+    let k = c .before .before .before in
+    (onward-by (givenTests (k .before .args .context) (k .before .args .state)) [] (k .check .ensures) (c .before .enum-told .given .1) (answered refl (ap Result (c .check-result .ensures .0))), c .check-result .ensures .1)))

@@ -1,0 +1,71 @@
+-- `crafty::states::step` meets its contract.
+-- Assumes nothing.
+use mathlib.Core.Path.{_≡_, refl, ap, sym, _∙_}
+use mathlib.Core.Bool.{Bool}
+use mathlib.Core.List.{List, [], _∷_, _++_}
+use borrow.Author.Needs.{needs}
+use Rattle.refusal.specs.Judge.{Test, Says}
+use Rattle.refusal.specs.JudgeLaws.{stopped, stopped-by, onward, onward-by, answered}
+use Rattle.laws.specs.Bits.{has}
+use Rattle.action.specs.Known.{actionTest}
+use Rattle.action.specs.KnownLaws.{action-shown}
+use Rattle.craft_state.specs.Limits.{givenTests}
+use Rattle.craft_state.specs.Inside.{Given}
+use Rattle.craft_state.specs.InsideLaws.{given-in}
+use Rattle.step.specs.Step.{executeOf}
+use Rattle.moves.specs.Moves.{movesOf}
+use Rattle.moves.specs.MoveLaws.{legal-playable}
+use Rattle.crafty.specs.States.{stepped, legalTest}
+use Rattle.crafty.specs.declared.states.Stepped.{Stepped}
+use Rattle.crafty.specs.declared.states.Stepped.the-variants.{To}
+use Rattle.crafty.proofs.states.step.Statement.{statement}
+use Rattle.crafty.proofs.states.step.Tie as tie
+
+-- the tests that come after those of context and state
+later : tie.Start → List Test
+later s = actionTest (s .args .n) ∷ legalTest (s .args .context) (s .args .state) (s .args .mode) (s .args .n) ∷ []
+
+answer : tie.Start → Stepped
+answer s = To (executeOf (s .args .context) (s .args .state) (s .args .n))
+
+-- context and state are inside the limits, so the later tests decide
+inside : (c : tie.After-enum-told) → Given (c .before .before .before .args .context) (c .before .before .before .args .state)
+inside c = given-in _ _ (c .before .before .check .ensures) (c .enum-told .given .1)
+
+began : (c : tie.After-enum-told) {r : Stepped}
+    → Says stepped (later (c .before .before .before)) (answer (c .before .before .before)) r
+    → Says stepped (givenTests (c .before .before .before .args .context) (c .before .before .before .args .state) ++ later (c .before .before .before)) (answer (c .before .before .before)) r
+began c h = onward-by (givenTests (c .before .before .before .args .context) (c .before .before .before .args .state)) (later (c .before .before .before)) (c .before .before .check .ensures) (c .enum-told .given .1) h
+
+-- the test of the candidate is its place among the moves
+tested : (c : tie.After-is-legal) {b : Bool} → let s = c .before .before .before .before .before .before .before in c .is-legal .result ≡ b → has (movesOf (s .args .context) (s .args .state) (s .args .mode)) (s .args .n) ≡ b
+tested c e = sym (c .is-legal .ensures) ∙ e
+
+pub step-spec : {M : Type 1} → statement M
+unfolding later answer
+step-spec =
+    tie.close
+    (tie.spec
+    (λ c κs. tt)
+    (λ c. search needs)
+    (λ c.
+    let k = c .before .before .before in
+    stopped-by (givenTests (k .before .args .context) (k .before .args .state)) (later (k .before)) (k .check .ensures) (c .before .given .given .1))
+    (λ c. search needs)
+    (λ c κs. tt)
+    (λ c. search needs)
+    (λ c. let k = c .before .before .before in began (k .before) (stopped (k .check-action .ensures) (c .before .known .given .1)))
+    (λ c. search needs)
+    (λ c κs. let k = c .before .before in (inside (k .before), action-shown (k .check-action .ensures) (c .enum-told2 .given .1)))
+    (λ c κs.
+    let l = c .before in
+    let k = l .before .before .before in
+    legal-playable _ _ _ _ (inside (k .before)) (action-shown (k .check-action .ensures) (l .before .enum-told2 .given .1)) (tested l (c .if1 .taken)))
+    (λ c.
+    let l = c .before .before in
+    let k = l .before .before .before in
+    began (k .before) (onward (k .check-action .ensures) (l .before .enum-told2 .given .1) (onward (rw (tested l (c .before .if1 .taken))) refl (answered refl (ap To (c .execute .ensures))))))
+    (λ c.
+    let l = c .before in
+    let k = l .before .before .before in
+    began (k .before) (onward (k .check-action .ensures) (l .before .enum-told2 .given .1) (stopped (rw (tested l (c .if1 .left))) refl))))

@@ -1,0 +1,81 @@
+// The entries over the states of a craft. Where a craft starts is `CraftState::new`.
+ghost use Rattle.crafty.specs.States.{HasMoves, Steps, HasResult, HasScore};
+use action_set::ActionSet;
+use craft_context::CraftContext;
+use craft_state::CraftState;
+use moves::Mode;
+use refusal::Checked;
+use refusal::Refusal;
+use score::CraftResult;
+
+// A state's legal moves, or a refusal.
+pub enum Allowed {
+    Moves(ActionSet),
+    Refused(Refusal),
+}
+
+// The next state, or a refusal.
+pub enum Stepped {
+    To(CraftState),
+    Refused(Refusal),
+}
+
+// A state's result, or a refusal.
+pub enum Judged {
+    Result(CraftResult),
+    Refused(Refusal),
+}
+
+// A state's score, finished or not, or a refusal.
+pub enum Scored {
+    Score(f32),
+    Refused(Refusal),
+}
+
+pub fn moves(context: CraftContext, state: CraftState, mode: Mode) -> Allowed
+    ensures { λ r. ⌜ HasMoves context state mode r ⌝ }
+{
+    let given = state.check(context);
+    if let Checked::Refused(x) = given {
+        return Allowed::Refused(x);
+    }
+    Allowed::Moves(ActionSet(moves::legal_moves(context, state, mode)))
+}
+
+// One action, if it is among the state's moves in the mode.
+pub fn step(context: CraftContext, state: CraftState, mode: Mode, n: u8) -> Stepped
+    ensures { λ r. ⌜ Steps context state mode n r ⌝ }
+{
+    let given = state.check(context);
+    if let Checked::Refused(x) = given {
+        return Stepped::Refused(x);
+    }
+    let known = action::check_action(n);
+    if let Checked::Refused(x) = known {
+        return Stepped::Refused(x);
+    }
+    if moves::is_legal(context, state, mode, n) {
+        return Stepped::To(step::execute(context, state, n));
+    }
+    Stepped::Refused(Refusal::IllegalAction)
+}
+
+pub fn result(context: CraftContext, state: CraftState, mode: Mode) -> Judged
+    ensures { λ r. ⌜ HasResult context state mode r ⌝ }
+{
+    let given = state.check(context);
+    if let Checked::Refused(x) = given {
+        return Judged::Refused(x);
+    }
+    Judged::Result(score::check_result(context, state, mode))
+}
+
+pub fn score(context: CraftContext, state: CraftState) -> Scored
+    ensures { λ r. ⌜ HasScore context state r ⌝ }
+{
+    let given = state.check(context);
+    if let Checked::Refused(x) = given {
+        return Scored::Refused(x);
+    }
+    Scored::Score(score::score(context, state))
+}
