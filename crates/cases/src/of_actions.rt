@@ -1,12 +1,12 @@
 // Kinds 1 to 7: single actions.
-use super::case;
-use super::say;
 use crafty::Attributed;
 use crafty::Combo;
 use crafty::Named;
 use crafty::Priced;
 use crafty::Timed;
 use crafty::Written;
+use lines::case;
+use lines::say;
 
 // What a room holds before.
 const DOT: u8 = b'.';

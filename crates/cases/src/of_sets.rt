@@ -1,6 +1,4 @@
 // Kinds 8 to 17: sets of actions.
-use super::case;
-use super::say;
 use crafty::ActionSet;
 use crafty::Asked;
 use crafty::Changed;
@@ -8,6 +6,8 @@ use crafty::Checked;
 use crafty::Highest;
 use crafty::Listed;
 use crafty::Size;
+use lines::case;
+use lines::say;
 
 // What a room holds before: no action.
 const UNTOUCHED: u8 = 255;
