@@ -114,7 +114,7 @@ pub fn answer(kind: u64, line: &[u8]) {
     let first = case::number(line, 0);
     let second = case::number(line, 1);
     let set = ActionSet(first);
-    let n = case::action(line, 1);
+    let n = case::byte(line, 1);
     match kind {
         8 => changed(ActionSet::from_bits(first)),
         9 => from_list(case::text(line)),
