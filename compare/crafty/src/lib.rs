@@ -25,6 +25,15 @@ pub mod craft_context {
 #[allow(warnings)]
 pub mod craft_state {
     include!(concat!(env!("CRAFTY_SRC"), "/crafty/src/craft_state.rs"));
+
+    impl<'a> CraftState<'a> {
+        /// The state with its moves in a mode worked out anew.
+        pub fn with_moves(&self, strict: bool) -> Self {
+            let mut state = Self { available_moves: ActionSet::new(), ..self.clone() };
+            state.set_available_moves(strict);
+            state
+        }
+    }
 }
 
 #[allow(warnings)]
@@ -50,6 +59,6 @@ pub mod tree {
 pub use action::Action;
 pub use action_set::ActionSet;
 pub use craft_context::{CraftContext, CraftOptions};
-pub use craft_state::{CraftResult, CraftState};
+pub use craft_state::{Buffs, CraftResult, CraftState};
 pub use player::Player;
 pub use recipe::Recipe;

@@ -8,7 +8,7 @@ use crafty::{Action, CraftState};
 use std::fmt::Display;
 
 /// The combos by the numbers they have in a case.
-const COMBOS: [Option<Action>; 5] = [
+pub const COMBOS: [Option<Action>; 5] = [
     None,
     Some(Action::BasicTouch),
     Some(Action::StandardTouch),

@@ -67,6 +67,6 @@ pub fn mark(number: u32) -> char {
     char::from(b'@' + number as u8)
 }
 
-fn digits(bytes: &[u8]) -> Option<u32> {
+pub fn digits(bytes: &[u8]) -> Option<u32> {
     std::str::from_utf8(bytes).ok()?.parse().ok()
 }

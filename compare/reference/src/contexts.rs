@@ -81,11 +81,14 @@ fn can_build(player: &Player, recipe: &Recipe) -> bool {
         && mods.iter().all(|modifier| *modifier <= 200)
 }
 
-/// The pool and the factors of a context that was built are always inside.
-fn is_inside(context: &CraftContext) -> bool {
+pub fn is_inside(context: &CraftContext) -> bool {
+    let factors = [context.base_progress_factor, context.base_quality_factor];
     let amounts =
         [context.progress_target, context.starting_quality, context.quality_target, context.cp_max];
-    amounts.iter().all(|amount| *amount <= 1_000_000) && (1..=97).contains(&context.durability_max)
+    factors.iter().all(|factor| *factor <= 200_070)
+        && amounts.iter().all(|amount| *amount <= 1_000_000)
+        && (1..=97).contains(&context.durability_max)
+        && context.action_pool.bits() >> 31 == 0
 }
 
 fn fields(context: &CraftContext) -> String {

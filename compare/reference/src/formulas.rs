@@ -3,6 +3,9 @@
 use crate::case::{Case, NUMBERS};
 use crafty::{Action, ActionSet, CraftContext, CraftState};
 
+/// A trained perfection by the numbers it has in a case.
+pub const PERFECTIONS: [Option<bool>; 3] = [None, Some(true), Some(false)];
+
 pub fn answer(case: &Case) -> String {
     let inside = case.numbers.iter().zip(limits(case.kind)).all(|(number, limit)| *number <= limit);
     if !inside {
@@ -69,7 +72,7 @@ fn quality_increase(
 fn durability_cost([base, perfection, waste_not, waste_not_ii, ..]: [u32; NUMBERS]) -> String {
     let context = plain_context();
     let mut state = CraftState::_new(&context);
-    state.trained_perfection_active = [None, Some(true), Some(false)][perfection as usize];
+    state.trained_perfection_active = PERFECTIONS[perfection as usize];
     state.buffs.waste_not = waste_not as u8;
     state.buffs.waste_not_ii = waste_not_ii as u8;
     Action::calc_durability_cost(&state, base as i8).to_string()

@@ -1,5 +1,6 @@
 //! The Rust's side of the comparison: `fixed`, `edges` and `random SEED COUNT KIND..` write cases, `answer`
-//! reads cases from standard input and writes one line for each.
+//! reads cases from standard input and writes one line for each. Of craft states, whose lines are wider:
+//! `fixed-states`, `random-states SEED FIRST COUNT`, `answer-states`, and `count-states`, what they meet.
 
 mod actions;
 mod case;
@@ -12,9 +13,13 @@ mod random;
 mod refusal;
 mod room;
 mod sets;
+mod states;
 
 use case::{Case, LAST_KIND, WIDTH};
 use std::io::{self, Read, Write};
+
+const COMMANDS: &str = "fixed | edges | random SEED COUNT KIND.. | answer \
+    | fixed-states | random-states SEED FIRST COUNT | answer-states | count-states";
 
 fn main() -> io::Result<()> {
     let arguments: Vec<String> = std::env::args().skip(1).collect();
@@ -26,7 +31,13 @@ fn main() -> io::Result<()> {
             write_cases(&generate::cases(number(seed), number(count), &of(kinds)))
         }
         ["answer"] => answer_cases(),
-        _ => fail("one of: fixed | edges | random SEED COUNT KIND.. | answer".to_string()),
+        ["fixed-states"] => write_states(states::fixed().into_iter()),
+        ["random-states", seed, first, count] => {
+            write_states(states::random(number(seed), number(first), number(count)))
+        }
+        ["answer-states"] => answer_states(),
+        ["count-states"] => count_states(),
+        _ => fail(format!("one of: {COMMANDS}")),
     }
 }
 
@@ -53,16 +64,23 @@ fn write_cases(cases: &[Case]) -> io::Result<()> {
 }
 
 fn answer_cases() -> io::Result<()> {
-    let mut input = Vec::new();
-    io::stdin().read_to_end(&mut input)?;
     let mut answers = String::new();
-    for (place, line) in input.chunks(WIDTH).enumerate() {
-        let case =
-            Case::read(line).unwrap_or_else(|| fail(format!("line {} is no case", place + 1)));
+    for case in given(WIDTH, Case::read)? {
         answers += &answer(&case);
         answers.push('\n');
     }
     io::stdout().write_all(answers.as_bytes())
+}
+
+/// The lines of standard input, all of one width.
+fn given<T>(width: usize, read: fn(&[u8]) -> Option<T>) -> io::Result<Vec<T>> {
+    let mut input = Vec::new();
+    io::stdin().read_to_end(&mut input)?;
+    let lines = input.chunks(width).enumerate();
+    let read_or_fail = |(place, line)| {
+        read(line).unwrap_or_else(|| fail(format!("line {} is no case", place + 1)))
+    };
+    Ok(lines.map(read_or_fail).collect())
 }
 
 fn answer(case: &Case) -> String {
@@ -72,4 +90,24 @@ fn answer(case: &Case) -> String {
         18..=20 => formulas::answer(case),
         _ => contexts::answer(case),
     }
+}
+
+fn write_states(mut states: impl Iterator<Item = states::Numbers>) -> io::Result<()> {
+    let mut out = io::BufWriter::new(io::stdout());
+    states.try_for_each(|state| out.write_all(&states::write(&state)))?;
+    out.flush()
+}
+
+fn answer_states() -> io::Result<()> {
+    let mut out = io::BufWriter::new(io::stdout());
+    for state in given(states::WIDTH, states::read)? {
+        writeln!(out, "{}", states::answer(&state))?;
+    }
+    out.flush()
+}
+
+fn count_states() -> io::Result<()> {
+    let mut counts = states::Counts::new();
+    given(states::WIDTH, states::read)?.iter().for_each(|state| counts.count(state));
+    write!(io::stdout(), "{counts}")
 }

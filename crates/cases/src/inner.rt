@@ -1,7 +1,7 @@
 // Kinds 18 to 20: the inner functions of one action, inside the limits that compare/ has too.
-use super::case;
-use super::say;
 use crafty::CraftContext;
+use lines::case;
+use lines::say;
 
 const LAST_ACTION: u32 = 30;
 

@@ -1,12 +1,12 @@
 // Answers the cases of compare/ on standard input, a line for each: docs/COMPARISON.md has their form.
 use libc::STDIN_FILENO;
+use lines::case;
+use lines::say;
 
-mod case;
 mod inner;
 mod of_actions;
 mod of_contexts;
 mod of_sets;
-mod say;
 
 const WIDTH: usize = 256;
 

@@ -1,12 +1,12 @@
 // Kinds 1 to 7: single actions.
-use super::case;
-use super::say;
 use crafty::Attributed;
 use crafty::Combo;
 use crafty::Named;
 use crafty::Priced;
 use crafty::Timed;
 use crafty::Written;
+use lines::case;
+use lines::say;
 
 // What a room holds before.
 const DOT: u8 = b'.';
@@ -30,16 +30,6 @@ fn attributes(n: u8) {
             say::amount(cp);
         }
         Attributed::Refused(x) => say::refused(x),
-    }
-}
-
-fn combo(number: u32) -> Combo {
-    match number {
-        1 => Combo::BasicTouch,
-        2 => Combo::StandardTouch,
-        3 => Combo::RefinedTouch,
-        4 => Combo::Observe,
-        _ => Combo::Nothing,
     }
 }
 
@@ -93,11 +83,11 @@ fn from_name(word: &[u8]) {
 }
 
 pub fn answer(kind: u64, line: &[u8]) {
-    let n = case::action(line, 0);
+    let n = case::byte(line, 0);
     let second = case::number(line, 1);
     match kind {
         1 => attributes(n),
-        2 => price(n, combo(second)),
+        2 => price(n, case::combo(line, 1)),
         3 => wait(n),
         7 => from_name(case::text(line)),
         _ => text(kind, n, second as usize),

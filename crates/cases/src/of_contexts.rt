@@ -1,13 +1,13 @@
 // Kind 21: a context from player, recipe and options.
 ghost use Prim.Native.Nat.{_<_};
-use super::case;
-use super::say;
 use crafty::Built;
 use crafty::CraftContext;
 use crafty::CraftOptions;
 use crafty::Given;
 use crafty::Player;
 use crafty::Recipe;
+use lines::case;
+use lines::say;
 
 // The flags, by their weights in the last number.
 const FLAGS: usize = 18;

@@ -1,6 +1,4 @@
 // Kinds 8 to 17: sets of actions.
-use super::case;
-use super::say;
 use crafty::ActionSet;
 use crafty::Asked;
 use crafty::Changed;
@@ -8,6 +6,8 @@ use crafty::Checked;
 use crafty::Highest;
 use crafty::Listed;
 use crafty::Size;
+use lines::case;
+use lines::say;
 
 // What a room holds before: no action.
 const UNTOUCHED: u8 = 255;
@@ -114,7 +114,7 @@ pub fn answer(kind: u64, line: &[u8]) {
     let first = case::number(line, 0);
     let second = case::number(line, 1);
     let set = ActionSet(first);
-    let n = case::action(line, 1);
+    let n = case::byte(line, 1);
     match kind {
         8 => changed(ActionSet::from_bits(first)),
         9 => from_list(case::text(line)),

@@ -21,7 +21,8 @@ fn can_pay(state: CraftState, n: u8, attribute: Amount) -> bool
     let Amount::Of(cost) = attribute else {
         return true;
     };
-    cost <= state.cp
+    let points = state.cp;
+    cost <= points
 }
 
 // No quality action once quality is at its target.

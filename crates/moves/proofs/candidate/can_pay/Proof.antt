@@ -5,4 +5,4 @@ use Rattle.moves.proofs.candidate.can_pay.Statement.{statement}
 use Rattle.moves.proofs.candidate.can_pay.Tie as tie
 
 pub can-pay-spec : {M : Type 1} → statement M
-can-pay-spec = tie.close (tie.spec (λ c. search needs) (λ c. search needs) (λ c. simp (c .enum-told .given .1)) (λ c. simp (c .before .before .attribute .given .1)))
+can-pay-spec = tie.close (tie.spec (λ c. search needs) (λ c. search needs) (λ c. simp (c .enum-told .given .1)) (λ c. simp (c .before .attribute .given .1)))

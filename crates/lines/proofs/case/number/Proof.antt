@@ -1,12 +1,12 @@
--- `cases::case::number` is safe and ends.
+-- `lines::case::number` is safe and ends.
 -- Assumes nothing.
 use Prim.Native.Nat.{_≤_, _-_}
 use native.Mathlib.Omega.{arith}
-use Rattle.cases.proofs.case.number.Statement.{statement}
-use Rattle.cases.proofs.case.number.Tie as tie
+use Rattle.lines.proofs.case.number.Statement.{statement}
+use Rattle.lines.proofs.case.number.Tie as tie
 
 abbrev Inv-loop : tie.InvT-loop
-Inv-loop line i start value₀ k₀ value k = (k ≤ 10) × (start ≤ 201)
+Inv-loop line i start value₀ k₀ value k = (k ≤ 10) × (start ≤ 432)
 
 abbrev μ-loop : tie.MeasureT-loop
 μ-loop line i start value₀ k₀ value k = 10 - k

@@ -1,5 +1,6 @@
-// The line of a case: its kind in two digits, nineteen numbers of ten digits, and 36 bytes of text.
+// The line of a case: its kind in two digits, numbers of ten digits each, and in a case of `cases` 36 bytes of text.
 ghost use Prim.Native.Nat.{_<_};
+use crafty::Combo;
 
 const TEXT: usize = 212;
 
@@ -23,9 +24,9 @@ pub fn kind(line: &[u8]) -> u64 {
     digit(line, 0) * 10 + digit(line, 1)
 }
 
-// Number i of the line, 0 to 18.
+// Number i of the line; a byte past its end reads as 0.
 pub fn number(line: &[u8], i: usize) -> u32
-    requires { ⌜ i < 19 ⌝ }
+    requires { ⌜ i < 40 ⌝ }
 {
     let start = 3 + 11 * i;
     let mut value: u64 = 0;
@@ -37,11 +38,24 @@ pub fn number(line: &[u8], i: usize) -> u32
     (value % 0x1_0000_0000) as u32
 }
 
-// Number i as the number of an action: a byte.
-pub fn action(line: &[u8], i: usize) -> u8
-    requires { ⌜ i < 19 ⌝ }
+// Number i as a byte: the number of an action is one.
+pub fn byte(line: &[u8], i: usize) -> u8
+    requires { ⌜ i < 40 ⌝ }
 {
     (number(line, i) % 256) as u8
+}
+
+// Number i as a combo.
+pub fn combo(line: &[u8], i: usize) -> Combo
+    requires { ⌜ i < 40 ⌝ }
+{
+    match number(line, i) {
+        1 => Combo::BasicTouch,
+        2 => Combo::StandardTouch,
+        3 => Combo::RefinedTouch,
+        4 => Combo::Observe,
+        _ => Combo::Nothing,
+    }
 }
 
 // The text: its length is the first number.

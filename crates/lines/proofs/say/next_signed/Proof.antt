@@ -1,11 +1,11 @@
--- `cases::say::next_signed` is safe and ends.
+-- `lines::say::next_signed` is safe and ends.
 -- Assumes nothing.
 use mathlib.Core.Path.{sym}
 use native.Mathlib.Omega.{arith}
 use lib.Seq.{length-take-le}
 use borrow.Author.Needs.{needs}
-use Rattle.cases.proofs.say.next_signed.Statement.{statement}
-use Rattle.cases.proofs.say.next_signed.Tie as tie
+use Rattle.lines.proofs.say.next_signed.Statement.{statement}
+use Rattle.lines.proofs.say.next_signed.Tie as tie
 
 pub next-signed-spec : {M : Type 1} → statement M
 next-signed-spec =

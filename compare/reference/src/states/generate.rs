@@ -1,0 +1,27 @@
+//! Random states: on the way of a craft or made up, and now and then outside the limits.
+
+use super::fields::numbers;
+use super::line::Numbers;
+use super::outside::push_outside;
+use super::random_context;
+use super::random_state;
+use crate::random::Random;
+
+/// States by their number in a run, so that a run may be cut into batches anywhere.
+pub fn states(seed: u64, first: u64, count: u64) -> impl Iterator<Item = Numbers> {
+    (first..first + count).map(move |number| state(&mut Random::new((seed << 32) + number)))
+}
+
+fn state(random: &mut Random) -> Numbers {
+    let context = random_context::context(random);
+    let state = if random.one_in(2) {
+        random_state::on_the_way(random, &context)
+    } else {
+        random_state::made_up(random, &context)
+    };
+    let mut numbers = numbers(&state);
+    if random.one_in(64) {
+        push_outside(random, &mut numbers);
+    }
+    numbers
+}

@@ -1,0 +1,56 @@
+//! Values just outside the limits, one field at a time.
+
+use super::fields::*;
+use super::limits::{BUFFS_MOST, STATE_AMOUNT_MOST};
+use super::line::Numbers;
+use crate::random::Random;
+use crafty::Action;
+
+/// Two factors and four amounts of a context.
+const CONTEXT: [(usize, u32); 6] = [
+    (2, 200_071),
+    (3, 200_071),
+    (5, 1_000_001),
+    (6, 1_000_001),
+    (7, 1_000_001),
+    (CP_MAX, 1_000_001),
+];
+/// The last two are -128 and -1.
+const DURABILITIES_MAX: [u32; 4] = [0, 98, 128, 255];
+/// -20 as a byte.
+const TOO_WORN: u32 = 236;
+
+pub fn push_outside(random: &mut Random, numbers: &mut Numbers) {
+    let outside = values(numbers);
+    let (place, value) = outside[random.place(outside.len())];
+    numbers[place] = value;
+}
+
+/// The fields with a value outside for each.
+fn values(numbers: &Numbers) -> Vec<(usize, u32)> {
+    let mut values = CONTEXT.to_vec();
+    values.extend(DURABILITIES_MAX.map(|value| (DURABILITY_MAX, value)));
+    values.extend([
+        (POOL, numbers[POOL] | 1 << 31),
+        (STEP, 0),
+        (PROGRESS, STATE_AMOUNT_MOST + 1),
+        (QUALITY, STATE_AMOUNT_MOST + 1),
+        (DURABILITY, TOO_WORN),
+        (DURABILITY, numbers[DURABILITY_MAX] + 1),
+        (CP, numbers[CP_MAX] + 1),
+        (COMBO, wrong_combo(numbers[LAST])),
+        (LAST, 31),
+    ]);
+    let buffs = BUFFS_MOST.iter().enumerate();
+    values.extend(buffs.map(|(place, most)| (INNER_QUIET + place, u32::from(*most) + 1)));
+    values
+}
+
+/// Observe, or BasicTouch where the last action is Observe itself.
+fn wrong_combo(last: u32) -> u32 {
+    if last == Action::Observe as u32 {
+        1
+    } else {
+        4
+    }
+}
