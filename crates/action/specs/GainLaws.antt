@@ -1,13 +1,13 @@
 -- Bounds of what an action adds to progress and quality.
 -- Assumes nothing.
 use mathlib.Core.Bool.{Bool, true, false, cond}
-use Prim.Native.Nat.{ℕ, _+_, _*_, _/_, _≤_}
+use Prim.Native.Nat.{ℕ, _+_, _*_, _≤_}
 use native.Mathlib.Nat.{mul-le-mul}
 use native.Mathlib.Omega.{arith}
 use lib.Dec.{eqb, ltb}
 use Rattle.action.specs.Actions.{ByregotsBlessing, TrainedEye}
-use Rattle.action.specs.Limits.{targetMost, factorMost, progressMost, qualityMost, quietMost, gainMost}
-use Rattle.action.specs.Gain.{multiplierOf, progressGainOf, efficiencyOf, touchGainOf, qualityGainOf, Touchable}
+use Rattle.action.specs.Limits.{factorMost, progressMost, qualityMost, quietMost, gainMost}
+use Rattle.action.specs.Gain.{multiplierOf, progressGainOf, efficiencyOf, qualityGainOf, Touchable}
 
 -- ---- the products before the division
 

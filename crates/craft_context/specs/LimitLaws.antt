@@ -23,8 +23,8 @@ module _ {z : ℤ} {n : ℕ} (e : z ≡ pos n) where
   pub durable-most : 1 ≤ n → leb n durabilityMost ≡ durable z
   durable-most h = rw (e, le-leb 1 n h)
 
--- 1..=97, raised by 1000
-pub durable-raised : (z : ℤ) → durable z ≡ true → (1001 ≤ raise z) × (raise z ≤ 1097)
+-- 1..=97, raised
+pub durable-raised : (z : ℤ) → durable z ≡ true → (raise (pos 0) < raise z) × (raise z ≤ raise (pos durabilityMost))
 durable-raised (pos n) e = let h = both (leb 1 n) (leb n durabilityMost) e in (omega (arith, leb-true 1 n (h .0)), omega (arith, leb-true n durabilityMost (h .1)))
 durable-raised (negsuc k) e = absurd (true-false (sym e))
 

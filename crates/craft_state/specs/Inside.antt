@@ -2,22 +2,22 @@
 -- Assumes nothing.
 use mathlib.Core.Path.{_≡_}
 use mathlib.Core.Bool.{true}
-use Prim.Native.Nat.{ℕ, _≤_}
-use lib.IntN.{ℤ}
+use Prim.Native.Nat.{_≤_, _<_}
+use lib.IntN.{ℤ, pos}
 use Rattle.laws.specs.Raise.{raise}
 use Rattle.action.specs.Limits.{amountMost, quietMost}
 use Rattle.craft_context.specs.declared.context.CraftContext.{CraftContext}
-use Rattle.craft_context.specs.Limits.{ContextIn}
-use Rattle.craft_state.specs.Limits.{stepLeast, wasteNotMost, wasteNotIIMost, manipulationMost, greatStridesMost, innovationMost, venerationMost, muscleMemoryMost, lastKnown, comboAgrees}
+use Rattle.craft_context.specs.Limits.{durabilityMost, ContextIn}
+use Rattle.craft_state.specs.Limits.{stepLeast, durabilityLeast, wasteNotMost, wasteNotIIMost, manipulationMost, greatStridesMost, innovationMost, venerationMost, muscleMemoryMost, lastKnown, comboAgrees}
 use Rattle.craft_state.specs.declared.buffs.Buffs.{Buffs}
 use Rattle.craft_state.specs.declared.state.CraftState.{CraftState}
 
--- from -19 to the most, which is from 1 to 97; each is raised by 1000, since omega reads no sign
+-- from -19 to the most, which is from 1 to 97; each is raised to a natural number, since omega reads no sign
 pub record Room (d most : ℤ) : Type 0 where
-  pub from : 981 ≤ raise d
+  pub from : raise durabilityLeast ≤ raise d
   pub to : raise d ≤ raise most
-  pub above : 1001 ≤ raise most
-  pub top : raise most ≤ 1097
+  pub above : raise (pos 0) < raise most
+  pub top : raise most ≤ raise (pos durabilityMost)
 
 pub record BuffsIn (b : Buffs) : Type 0 where
   pub quiet : b .«inner_quiet» ≤ quietMost

@@ -1,7 +1,6 @@
 -- Where a craft starts, and the entry that answers it.
 -- Assumes nothing.
 use mathlib.Core.Path.{refl}
-use lib.IntN.{ℤ}
 use Rattle.refusal.specs.declared.Report.{Report}
 use Rattle.refusal.specs.Report.{reportOf, success}
 use Rattle.refusal.specs.Judge.{Kind, Says}

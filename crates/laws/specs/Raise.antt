@@ -5,9 +5,9 @@ use Prim.Native.Nat.{ℕ, zero, suc, _+_, _-_, _≤_, _<_}
 use native.Mathlib.Omega.{arith}
 use mathlib.Core.Bool.{Bool, true, false, not, cond}
 use lib.IntN.{ℤ, pos, negsuc, negℤ, subℕ, _+ℤ_, _-ℤ_}
-use lib.Signed.{mag, leZ, ltZ}
-use lib.Dec.{T, ltb, leb, ltb→lt, nltb→le, leb→le, nleb→lt, le→leb}
-use borrow.Author.Tests.{ltb-true, ltb-false, leb-true, leb-false, lt-ltb, le-ltb, le-leb, lt-leb}
+use lib.Signed.{mag, leZ}
+use lib.Dec.{T, ltb, ltb→lt, nltb→le}
+use borrow.Author.Tests.{leb-true, leb-false, le-leb}
 use mir.Syntax.{w8}
 use mir.Val.{SFits, toZ, ofZ}
 use mir.ValLaws.{toZ-ofZ}
@@ -48,14 +48,6 @@ pub mag-of : (z : ℤ) (k : ℕ) → k < 1000 → 1000 ≤ raise z + k → raise
 mag-of (pos n) k K p q = omega arith
 mag-of (negsuc n) k K p q = omega arith
 
-pub raise-low : (z : ℤ) → mag z < 256 → 744 ≤ raise z
-raise-low (pos n) h = omega arith
-raise-low (negsuc n) h = omega arith
-
-pub raise-high : (z : ℤ) → mag z < 256 → raise z < 1256
-raise-high (pos n) h = omega arith
-raise-high (negsuc n) h = omega arith
-
 -- ---- the tests, each way
 pub le-raise : (a b : ℤ) → leZ a b ≡ true → raise a ≤ raise b
 le-raise (pos a) (pos b) h = omega (arith, leb-true a b h)
@@ -72,37 +64,19 @@ raise-le (pos a) (negsuc b) z h = absurd (never a b h)
 raise-le (negsuc a) (pos b) z h = refl
 raise-le (negsuc a) (negsuc b) z h = le-leb b a (omega arith)
 
-pub raise-gt : (a b : ℤ) → raise b < raise a → leZ a b ≡ false
-raise-gt (pos a) (pos b) h = lt-leb a b (omega arith)
-raise-gt (pos a) (negsuc b) h = refl
-raise-gt (negsuc a) (pos b) h = absurd (never a b h)
-  where
-    never : (a b : ℕ) → 1000 + b < 999 - a → ⊥
-    never a b h = omega arith
-raise-gt (negsuc a) (negsuc b) h = lt-leb b a (omega arith)
+pub gt-raise : (a b : ℤ) → leZ a b ≡ false → 0 < raise a → raise b < raise a
+gt-raise (pos a) (pos b) h z = omega (arith, leb-false a b h)
+gt-raise (pos a) (negsuc b) h z = omega arith
+gt-raise (negsuc a) (pos b) h z = absurd (subst (λ (t : Bool). T (not t)) (sym h) tt)
+gt-raise (negsuc a) (negsuc b) h z = omega (arith, leb-false b a h)
 
-pub lt-raise : (a b : ℤ) → ltZ a b ≡ true → 0 < raise b → raise a < raise b
-lt-raise (pos a) (pos b) h z = omega (arith, ltb-true a b h)
-lt-raise (pos a) (negsuc b) h z = absurd (subst T (sym h) tt)
-lt-raise (negsuc a) (pos b) h z = omega arith
-lt-raise (negsuc a) (negsuc b) h z = omega (arith, ltb-true b a h)
-
--- ---- the machine's sum and difference at i8: it reads each operand back from its bits
+-- ---- in a byte: the machine reads each operand of a difference back from its bits
 pub fits8 : (z : ℤ) → 872 ≤ raise z → raise z < 1128 → SFits w8 z
 fits8 z p q = record { sfits = mag-of z 128 (omega arith) (omega arith) (omega arith) }
 
 module _ (a b : ℤ) (p : SFits w8 a) (q : SFits w8 b) where
   back : (toZ w8 (ofZ w8 a) ≡ a) × (toZ w8 (ofZ w8 b) ≡ b)
   back = (toZ-ofZ w8 a p, toZ-ofZ w8 b q)
-
-  pub add8 : 1872 ≤ raise a + raise b → raise a + raise b < 2128 → SFits w8 (toZ w8 (ofZ w8 a) +ℤ toZ w8 (ofZ w8 b))
-  add8 l h = rw (back .0, back .1) (let e = raise-add a b (below a p) (below b q) in fits8 (a +ℤ b) (omega arith) (omega arith))
-    where
-      below : (z : ℤ) → SFits w8 z → mag z < 256
-      below z r = omega (arith, r .sfits)
-
-  pub add8-is : 1872 ≤ raise a + raise b → raise a + raise b < 2128 → toZ w8 (ofZ w8 (toZ w8 (ofZ w8 a) +ℤ toZ w8 (ofZ w8 b))) ≡ a +ℤ b
-  add8-is l h = toZ-ofZ w8 _ (add8 l h) ∙ ap (λ (z : ℤ). z +ℤ toZ w8 (ofZ w8 b)) (back .0) ∙ ap (λ (z : ℤ). a +ℤ z) (back .1)
 
   pub sub8 : 872 + raise b ≤ raise a + 1000 → raise a + 1000 < 1128 + raise b → SFits w8 (toZ w8 (ofZ w8 a) -ℤ toZ w8 (ofZ w8 b))
   sub8 l h = rw (back .0, back .1) (let e = raise-sub a b (below a p) (below b q) in fits8 (a -ℤ b) (omega arith) (omega arith))
@@ -112,18 +86,3 @@ module _ (a b : ℤ) (p : SFits w8 a) (q : SFits w8 b) where
 
   pub sub8-is : 872 + raise b ≤ raise a + 1000 → raise a + 1000 < 1128 + raise b → toZ w8 (ofZ w8 (toZ w8 (ofZ w8 a) -ℤ toZ w8 (ofZ w8 b))) ≡ a -ℤ b
   sub8-is l h = toZ-ofZ w8 _ (sub8 l h) ∙ ap (λ (z : ℤ). z -ℤ toZ w8 (ofZ w8 b)) (back .0) ∙ ap (λ (z : ℤ). a -ℤ z) (back .1)
-
-pub mag8 : (z : ℤ) → SFits w8 z → mag z < 255
-mag8 z r = omega (arith, r .sfits)
-
-pub not-lt-raise : (a b : ℤ) → ltZ a b ≡ false → raise b ≤ raise a
-not-lt-raise (pos a) (pos b) h = omega (arith, ltb-false a b h)
-not-lt-raise (pos a) (negsuc b) h = omega arith
-not-lt-raise (negsuc a) (pos b) h = absurd (subst (λ (t : Bool). T (not t)) (sym h) tt)
-not-lt-raise (negsuc a) (negsuc b) h = omega (arith, ltb-false b a h)
-
-pub gt-raise : (a b : ℤ) → leZ a b ≡ false → 0 < raise a → raise b < raise a
-gt-raise (pos a) (pos b) h z = omega (arith, leb-false a b h)
-gt-raise (pos a) (negsuc b) h z = omega arith
-gt-raise (negsuc a) (pos b) h z = absurd (subst (λ (t : Bool). T (not t)) (sym h) tt)
-gt-raise (negsuc a) (negsuc b) h z = omega (arith, leb-false b a h)

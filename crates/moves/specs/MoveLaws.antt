@@ -1,8 +1,8 @@
 -- Laws of the moves: which candidates are among them, what that gives to the step, and that strict moves are a part of the plain ones.
 -- Assumes nothing.
 use mathlib.Core.Path.{_≡_, refl, sym, _∙_}
-use mathlib.Core.Bool.{Bool, true, false, cond, not, _&&_, _||_}
-use Prim.Native.Nat.{ℕ, _≤_, _<_, zero-le}
+use mathlib.Core.Bool.{Bool, true, false, cond, not, _&&_}
+use Prim.Native.Nat.{ℕ, _+_, _≤_, _<_, zero-le}
 use native.Mathlib.Nat.{le-trans}
 use native.Mathlib.Omega.{arith}
 use borrow.Author.Tests.{leb-true, leb-false, ltb-true, eqb-true, not-true}
@@ -30,6 +30,8 @@ use Rattle.craft_state.specs.declared.state.CraftState.{CraftState}
 use Rattle.craft_state.specs.Limits.{stepLeast}
 use Rattle.craft_state.specs.Inside.{Given}
 use Rattle.step.specs.Asked.{Where, Payable, Playable}
+use Rattle.step.specs.Step.{executeOf}
+use Rattle.step.specs.StepLaws.{execute-in, execute-pays}
 use Rattle.moves.specs.Rules.{affords, mayImprove, eyeAlone, outsideMemory, outsideVeneration, afterObserve, mayProgress, ownRule, strictRule}
 use Rattle.moves.specs.Moves.{strictlyOf, allowedOf, allowsOf, ended, movesOf}
 use Rattle.moves.specs.declared.mode.Mode.{Mode}
@@ -79,7 +81,7 @@ improve-where c s Nothing t = tt
 pub record Going (c : CraftContext) (s : CraftState) : Type 0 where
   pub below : s .progress < c .«progress_target»
   pub early : s .step < c .«step_max»
-  pub alive : 1001 ≤ raise (s .durability)
+  pub alive : raise (pos 0) < raise (s .durability)
 
 pub going : (c : CraftContext) (s : CraftState) → Given c s → ended c s ≡ false → Going c s
 going c s g e =
@@ -120,6 +122,12 @@ module _ (c : CraftContext) (s : CraftState) (mode : Mode) (n : ℕ) (g : Given 
       by : (cost : Amount) → Payable (s .cp) (s .«previous_combo_action») n cost → chargeOf n (s .«previous_combo_action») cost ≤ s .cp
       by (Of cost) p = p
       by Nothing p = zero-le
+
+  pub legal-keeps : Given c (executeOf c s n)
+  legal-keeps = execute-in c s n (attributesOf n) (rows-bounded n h) legal-playable
+
+  pub legal-pays : executeOf c s n .cp + chargeOf n (s .«previous_combo_action») (attributesOf n .«cp_cost») ≡ s .cp
+  legal-pays = execute-pays c s n (attributesOf n) (rows-bounded n h) legal-playable
 
 -- ---- strict moves are a part of the plain ones
 

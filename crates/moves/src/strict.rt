@@ -1,8 +1,6 @@
 // The rules of strict mode, in the order of the source.
 ghost use mathlib.Core.Path.{_≡_};
-ghost use Rattle.action.specs.Amount.{AtMost};
 ghost use Rattle.action.specs.Bounds.{RowBounds};
-ghost use Rattle.action.specs.Limits.{progressMost};
 ghost use Rattle.craft_state.specs.Inside.{Given};
 ghost use Rattle.step.specs.Asked.{Progressing};
 ghost use Rattle.moves.specs.Rules.{eyeAlone, outsideMemory, outsideVeneration, afterObserve, mayProgress};

@@ -91,7 +91,7 @@ part-small bonus value target b =
 durability-part-small : (d most : ℤ) → Room d most → Small (partOf durabilityBonus (ofInt binary32 d) (ofInt binary32 most)) 19
 durability-part-small d (negsuc n) r = absurd (none n (r .above))
   where
-    none : (n : ℕ) → 1001 ≤ 999 - n → ⊥
+    none : (n : ℕ) → 1000 < 999 - n → ⊥
     none n h = omega arith
 durability-part-small (pos a) (pos n) r = small-more (partOf durabilityBonus (float a) (float n)) 1 19 (lit≤ tt) (part-small durabilityBonus a n durability-small)
 durability-part-small (negsuc a) (pos n) r =

@@ -1,9 +1,10 @@
 -- What one action asks: a context and a state inside the limits, and what makes the action legal there.
 -- Assumes nothing.
 use Prim.Native.Nat.{ℕ, _≤_, _<_}
+use lib.IntN.{pos}
 use Rattle.laws.specs.Raise.{raise}
 use Rattle.action.specs.Known.{actions}
-use Rattle.action.specs.Limits.{amountMost, factorMost, targetMost, progressMost, qualityMost, quietMost}
+use Rattle.action.specs.Limits.{amountMost, factorMost, targetMost, progressMost, quietMost}
 use Rattle.action.specs.Amount.{AtMost}
 use Rattle.action.specs.Price.{priceOf}
 use Rattle.action.specs.declared.table.Amount.{Amount}
@@ -12,7 +13,7 @@ use Rattle.action.specs.declared.table.Attributes.{Attributes}
 use Rattle.action.specs.declared.price.Combo.{Combo}
 use Rattle.craft_context.specs.declared.context.CraftContext.{CraftContext}
 use Rattle.craft_state.specs.declared.state.CraftState.{CraftState}
-use Rattle.craft_state.specs.Inside.{Room, Given}
+use Rattle.craft_state.specs.Inside.{Given}
 
 -- said of an attribute where there is one
 abbrev pub Where : Amount → Type 0 → Type 0
@@ -30,7 +31,7 @@ pub record Playable (c : CraftContext) (s : CraftState) (n : ℕ) (row : Attribu
   pub known : n < actions
   pub below : s .progress < c .«progress_target»
   pub early : s .step < c .«step_max»
-  pub alive : 1001 ≤ raise (s .durability)
+  pub alive : raise (pos 0) < raise (s .durability)
   pub quality : Where (row .«quality_efficiency») (s .quality < c .«quality_target»)
   pub payable : Payable (s .cp) (s .«previous_combo_action») n (row .«cp_cost»)
 

@@ -2,7 +2,7 @@
 -- Assumes nothing.
 use mathlib.Core.Path.{_≡_, refl}
 use mathlib.Core.Bool.{Bool, true, false, cond, _&&_}
-use Prim.Native.Nat.{ℕ, _+_, _≤_}
+use Prim.Native.Nat.{ℕ, _+_, _≤_, _<_}
 use native.Mathlib.Omega.{arith}
 use lib.Dec.{ltb}
 use lib.IntN.{ℤ, pos, _+ℤ_, _-ℤ_}
@@ -53,7 +53,7 @@ mended-room d by most r h = go (leZ (d +ℤ pos by) most) (le-raise (d +ℤ pos 
     go false f = record { from = omega arith; to = omega arith; above = r .above; top = r .top }
 
 -- from above 0, a cost leaves -19 at the least
-pub hurt-room : (d : ℤ) (cost : ℕ) (most : ℤ) → Room d most → 1001 ≤ raise d → cost ≤ durabilityMost → Room (d -ℤ pos cost) most
+pub hurt-room : (d : ℤ) (cost : ℕ) (most : ℤ) → Room d most → raise (pos 0) < raise d → cost ≤ durabilityMost → Room (d -ℤ pos cost) most
 hurt-room d cost most r a h =
     let e : raise (d -ℤ pos cost) + (1000 + cost) ≡ raise d + 1000 = raise-sub d (pos cost) (mag-of d 255 (omega arith) (omega arith) (omega arith)) (omega arith) in
     record { from = omega arith; to = omega arith; above = r .above; top = r .top }

@@ -1,11 +1,10 @@
 -- Bounds of what one action does to each field, by any row in the bounds.
 -- Assumes nothing.
-use mathlib.Core.Path.{_≡_, refl, sym}
+use mathlib.Core.Path.{_≡_, refl}
 use mathlib.Core.Bool.{Bool, true, false, cond, _&&_, _||_}
-use Prim.Native.Nat.{ℕ, _+_, _-_, _/_, _≤_, _<_, min}
+use Prim.Native.Nat.{ℕ, _+_, _-_, _/_, _≤_, _<_}
 use native.Mathlib.Nat.{le-refl, le-trans, sub-le, sub-add-cancel, add-zero}
 use native.Mathlib.Omega.{arith}
-use borrow.Author.Tests.{eqb-true, eq-eqb}
 use lib.Dec.{eqb, ltb}
 use lib.IntN.{ℤ, pos}
 use Rattle.laws.specs.Raise.{raise}
@@ -28,7 +27,7 @@ use Rattle.craft_state.specs.declared.state.Last.the-variants as L
 use Rattle.craft_state.specs.Limits.{comboAgrees}
 use Rattle.craft_state.specs.Inside.{Room, BuffsIn}
 use Rattle.step.specs.Durability.{mendedOf, mastersMends, mended-room, hurt-room}
-use Rattle.step.specs.Parts.{progressAfter, qualityAfter, quietTo, quietAfter, quietLevel, doublesQuiet, usedUp, isActive, durabilityAfter, cpAfter, onBasicTouch, comboAfter, tickedOf, setBy, effectOf, mendAfter}
+use Rattle.step.specs.Parts.{progressAfter, qualityAfter, quietAfter, quietLevel, doublesQuiet, usedUp, isActive, durabilityAfter, cpAfter, onBasicTouch, comboAfter, tickedOf, effectOf, mendAfter}
 use Rattle.step.specs.Asked.{Where, Payable, Progressing, Touching}
 
 cond-le : (t : Bool) {x y most : ℕ} → x ≤ most → y ≤ most → cond t x y ≤ most
@@ -75,7 +74,7 @@ wear-at-most cost perfection wasteNot wasteNotII = go perfection (ltb 0 wasteNot
     go false true = omega arith
     go false false = le-refl cost
 
-pub durability-room : (s : CraftState) (most : ℤ) (cost : Amount) → Room (s .durability) most → 1001 ≤ raise (s .durability) → AtMost durabilityMost cost → Room (durabilityAfter s cost) most
+pub durability-room : (s : CraftState) (most : ℤ) (cost : Amount) → Room (s .durability) most → raise (pos 0) < raise (s .durability) → AtMost durabilityMost cost → Room (durabilityAfter s cost) most
 durability-room s most (Of cost) r a h =
     hurt-room (s .durability) _ most r a (le-trans (wear-at-most cost (isActive (s .«trained_perfection_active»)) (s .buffs .«waste_not») (s .buffs .«waste_not_ii»)) h)
 durability-room s most Nothing r a h = r

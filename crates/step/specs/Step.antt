@@ -8,7 +8,6 @@ use Rattle.action.specs.Table.{attributesOf}
 use Rattle.action.specs.declared.table.Amount.{Amount}
 use Rattle.action.specs.declared.table.Attributes.{Attributes}
 use Rattle.craft_context.specs.declared.context.CraftContext.{CraftContext}
-use Rattle.craft_state.specs.declared.buffs.Buffs.{Buffs}
 use Rattle.craft_state.specs.declared.state.CraftState.{CraftState}
 use Rattle.craft_state.specs.declared.state.Last.the-variants as L
 use Rattle.step.specs.Durability.{refreshedTo}

@@ -2,11 +2,12 @@
 -- Assumes nothing.
 use mathlib.Core.Path.{_≡_, refl}
 use mathlib.Core.Bool.{Bool, true, false, cond}
-use Prim.Native.Nat.{ℕ, _+_, _≤_}
+use Prim.Native.Nat.{ℕ, _+_, _≤_, _<_}
 use native.Mathlib.Nat.{le-trans, le-of-lt}
 use native.Mathlib.Omega.{arith}
 use borrow.Author.Tests.{lt-ltb}
 use lib.Dec.{eqb}
+use lib.IntN.{pos}
 use Rattle.laws.specs.Raise.{raise}
 use Rattle.action.specs.Actions as A
 use Rattle.action.specs.Bounds.{RowBounds}
@@ -67,7 +68,7 @@ module _ (c : CraftContext) (s : CraftState) (n : ℕ) (row : Attributes) where
     unfolding begunOf progressedOf improvedOf
     improved-room = p .given .state .room
 
-    improved-alive : 1001 ≤ raise (improved .durability)
+    improved-alive : raise (pos 0) < raise (improved .durability)
     unfolding begunOf progressedOf improvedOf
     improved-alive = p .alive
 

@@ -2,7 +2,6 @@
 ghost use mathlib.Core.Path.{_≡_};
 ghost use Prim.Native.Nat.{_≤_};
 ghost use lib.IntN.{pos, _-ℤ_};
-ghost use Rattle.laws.specs.Raise.{raise};
 ghost use Rattle.action.specs.Amount.{AtMost};
 ghost use Rattle.action.specs.Limits.{durabilityMost};
 ghost use Rattle.craft_state.specs.Inside.{Room};

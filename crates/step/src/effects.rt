@@ -2,7 +2,7 @@
 ghost use mathlib.Core.Path.{_≡_};
 ghost use Prim.Native.Nat.{_-_};
 ghost use Rattle.craft_state.specs.Inside.{Room};
-ghost use Rattle.step.specs.Parts.{tickedOf, effectOf, mendAfter, perfectedBy, quickAfter};
+ghost use Rattle.step.specs.Parts.{tickedOf, effectOf, mendAfter, perfectedBy};
 ghost use Rattle.step.specs.Step.{timedOf, affectedOf};
 use super::durability::mend;
 use craft_context::CraftContext;

@@ -3,7 +3,7 @@ ghost use mathlib.Core.Path.{_≡_};
 ghost use Prim.Native.Nat.{_+_, _-_, _≤_, min};
 ghost use Rattle.action.specs.Amount.{AtMost};
 ghost use Rattle.action.specs.Limits.{qualityMost, quietMost, gainMost};
-ghost use Rattle.step.specs.Parts.{onBasicTouch, doublesQuiet, quietTo, qualityGain};
+ghost use Rattle.step.specs.Parts.{doublesQuiet, quietTo, qualityGain};
 ghost use Rattle.step.specs.Step.{improvedOf};
 ghost use Rattle.step.specs.Asked.{Touching};
 use super::combos::on_basic_touch;

@@ -1,6 +1,5 @@
 -- `step::whole::execute` meets its contract.
 -- Assumes nothing.
-use mathlib.Core.Path.{_∙_}
 use borrow.Author.Needs.{needs}
 use Rattle.action.specs.Bounds.{RowBounds}
 use Rattle.action.specs.BoundLaws.{rows-bounded}
