@@ -33,7 +33,7 @@ use Rattle.step.specs.Asked.{Where, Payable, Playable}
 use Rattle.step.specs.Step.{executeOf}
 use Rattle.step.specs.StepLaws.{execute-in, execute-pays}
 use Rattle.moves.specs.Rules.{affords, mayImprove, eyeAlone, outsideMemory, outsideVeneration, afterObserve, mayProgress, ownRule, strictRule}
-use Rattle.moves.specs.Moves.{strictlyOf, allowedOf, allowsOf, ended, movesOf}
+use Rattle.moves.specs.Moves.{strictlyOf, allowedOf, allowsOf, passesOf, ended, movesOf}
 use Rattle.moves.specs.declared.mode.Mode.{Mode}
 
 -- ---- the set
@@ -56,7 +56,7 @@ module _ (c : CraftContext) (s : CraftState) (mode : Mode) where
       by false = set-inside (λ m. has (c .«action_pool» .0) m && allowsOf c s mode m)
 
   -- THE law of membership: the state has not ended, the pool has the candidate, and it passes the test
-  pub has-moves : (n : ℕ) → n < actions → has (movesOf c s mode) n ≡ not (ended c s) && (has (c .«action_pool» .0) n && allowsOf c s mode n)
+  pub has-moves : (n : ℕ) → n < actions → has (movesOf c s mode) n ≡ not (ended c s) && passesOf c s mode n
   unfolding movesOf
   has-moves n h = by (ended c s)
     where

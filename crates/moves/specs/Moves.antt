@@ -5,6 +5,7 @@ use Prim.Native.Nat.{ℕ}
 use lib.Dec.{eqb, leb}
 use lib.IntN.{pos}
 use lib.Signed.{leZ}
+use Rattle.laws.specs.Bits.{has}
 use Rattle.action.specs.Actions as A
 use Rattle.action.specs.Table.{attributesOf}
 use Rattle.action.specs.declared.table.Attributes.{Attributes}
@@ -32,6 +33,10 @@ allowedOf c s mode n row = affords s n (row .«cp_cost») && mayImprove c s (row
 -- by its row of the table
 abbrev pub allowsOf : CraftContext → CraftState → Mode → ℕ → Bool
 allowsOf c s mode n = allowedOf c s mode n (attributesOf n)
+
+-- the pool has it, and it passes
+abbrev pub passesOf : CraftContext → CraftState → Mode → ℕ → Bool
+passesOf c s mode n = has (c .«action_pool» .0) n && allowsOf c s mode n
 
 -- the craft is over: progress at its target, no step left, or no durability
 abbrev pub ended : CraftContext → CraftState → Bool

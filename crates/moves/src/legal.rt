@@ -5,7 +5,7 @@ ghost use Rattle.laws.specs.Bits.{has};
 ghost use Rattle.action.specs.Known.{actions};
 ghost use Rattle.action_set.specs.Set.{Inside};
 ghost use Rattle.craft_state.specs.Inside.{Given};
-ghost use Rattle.moves.specs.Moves.{ended, movesOf};
+ghost use Rattle.moves.specs.Moves.{ended, passesOf, movesOf};
 use super::candidate::allows;
 use super::mode::Mode;
 use action_set::bits;
@@ -21,7 +21,19 @@ pub fn has_ended(context: CraftContext, state: CraftState) -> bool
         | (state.durability <= 0)
 }
 
-// One candidate: the same as looking it up in the moves.
+// One candidate of a state that has not ended: the pool has it, and it passes the test.
+pub fn passes(context: CraftContext, state: CraftState, mode: Mode, n: u8) -> bool
+    requires { ⌜ Given context state × (n < actions) ⌝ }
+    ensures { λ r. ⌜ r ≡ passesOf context state mode n ⌝ }
+{
+    let pool = context.action_pool;
+    if bits::holds(pool.0, n) {
+        return allows(context, state, mode, n);
+    }
+    false
+}
+
+// One candidate of any state: the same as looking it up in the moves.
 pub fn is_legal(context: CraftContext, state: CraftState, mode: Mode, n: u8) -> bool
     requires { ⌜ Given context state × (n < actions) ⌝ }
     ensures { λ r. ⌜ r ≡ has (movesOf context state mode) n ⌝ }
@@ -29,11 +41,7 @@ pub fn is_legal(context: CraftContext, state: CraftState, mode: Mode, n: u8) -> 
     if has_ended(context, state) {
         return false;
     }
-    let pool = context.action_pool;
-    if bits::holds(pool.0, n) {
-        return allows(context, state, mode, n);
-    }
-    false
+    passes(context, state, mode, n)
 }
 
 // The walk over the pool.

@@ -9,4 +9,5 @@ pub use candidate::allows;
 pub use legal::has_ended;
 pub use legal::is_legal;
 pub use legal::legal_moves;
+pub use legal::passes;
 pub use mode::Mode;

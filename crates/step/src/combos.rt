@@ -1,24 +1,13 @@
 // Parts 6 and 7: points paid, and the combo that the action opens.
 ghost use mathlib.Core.Path.{_≡_};
-ghost use Rattle.step.specs.Parts.{onBasicTouch, comboAfter};
+ghost use Rattle.step.specs.Parts.{comboAfter};
 ghost use Rattle.step.specs.Step.{paidOf, combinedOf};
 ghost use Rattle.step.specs.Asked.{Payable};
+use super::quality::on_basic_touch;
 use action::Amount;
 use action::Combo;
 use craft_state::CraftState;
 use craft_state::renewed;
-
-pub fn on_basic_touch(combo: Combo) -> bool
-    ensures { λ r. ⌜ r ≡ onBasicTouch combo ⌝ }
-{
-    match combo {
-        Combo::Nothing => false,
-        Combo::BasicTouch => true,
-        Combo::StandardTouch => false,
-        Combo::RefinedTouch => false,
-        Combo::Observe => false,
-    }
-}
 
 pub fn paid(state: CraftState, n: u8, attribute: Amount) -> CraftState
     requires { ⌜ Payable (state .cp) (state .«previous_combo_action») n attribute ⌝ }

@@ -6,6 +6,6 @@ mod progress;
 mod quality;
 mod whole;
 
-pub use combos::on_basic_touch;
 pub use durability::wears;
+pub use quality::on_basic_touch;
 pub use whole::execute;

@@ -3,10 +3,9 @@ ghost use mathlib.Core.Path.{_≡_};
 ghost use Prim.Native.Nat.{_+_, _-_, _≤_, min};
 ghost use Rattle.action.specs.Amount.{AtMost};
 ghost use Rattle.action.specs.Limits.{qualityMost, quietMost, gainMost};
-ghost use Rattle.step.specs.Parts.{doublesQuiet, quietTo, qualityGain};
+ghost use Rattle.step.specs.Parts.{onBasicTouch, doublesQuiet, quietTo, qualityGain};
 ghost use Rattle.step.specs.Step.{improvedOf};
 ghost use Rattle.step.specs.Asked.{Touching};
-use super::combos::on_basic_touch;
 use action::Amount;
 use action::Combo;
 use craft_context::CraftContext;
@@ -48,6 +47,18 @@ fn capped(quiet: u8) -> u8
         return quiet;
     }
     Buffs::INNER_QUIET_MOST
+}
+
+pub fn on_basic_touch(combo: Combo) -> bool
+    ensures { λ r. ⌜ r ≡ onBasicTouch combo ⌝ }
+{
+    match combo {
+        Combo::Nothing => false,
+        Combo::BasicTouch => true,
+        Combo::StandardTouch => false,
+        Combo::RefinedTouch => false,
+        Combo::Observe => false,
+    }
 }
 
 // These raise inner quiet by 2.

@@ -11,15 +11,8 @@ is-legal-spec =
     (tie.spec
     (λ c κs. tt)
     (λ c. let s = c .before .before in simp (has-moves (s .args .context) (s .args .state) (s .args .mode) (s .args .n) (s .pre .1), sym (c .before .has-ended .ensures) ∙ c .if1 .taken))
-    (λ c κs. c .before .before .before .pre .1)
-    (λ c κs. c .before .before .before .before .before .pre)
+    (λ c κs. c .before .before .pre)
     (λ c.
-    let h = c .before .before in
-    let e = h .before .before in
+    let e = c .before in
     let s = e .before .before in
-    c .allows .ensures ∙ simp (has-moves (s .args .context) (s .args .state) (s .args .mode) (s .args .n) (s .pre .1), sym (e .before .has-ended .ensures) ∙ e .if1 .left, sym (h .holds .ensures) ∙ c .before .if2 .taken))
-    (λ c.
-    let h = c .before in
-    let e = h .before .before in
-    let s = e .before .before in
-    simp (has-moves (s .args .context) (s .args .state) (s .args .mode) (s .args .n) (s .pre .1), sym (e .before .has-ended .ensures) ∙ e .if1 .left, sym (h .holds .ensures) ∙ c .if2 .left)))
+    c .passes .ensures ∙ simp (has-moves (s .args .context) (s .args .state) (s .args .mode) (s .args .n) (s .pre .1), sym (e .before .has-ended .ensures) ∙ e .if1 .left)))
