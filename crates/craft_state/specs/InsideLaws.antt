@@ -1,10 +1,13 @@
 -- The ranges of a state, as tests and as facts: the one gives the other.
 -- Assumes nothing.
-use mathlib.Core.Path.{_≡_}
+use mathlib.Core.Path.{_≡_, refl}
 use mathlib.Core.Bool.{true}
 use mathlib.Core.List.{[], _∷_}
+use Prim.Native.Nat.{zero-le}
+use native.Mathlib.Nat.{le-refl, le-trans}
 use native.Mathlib.Omega.{arith}
 use borrow.Author.Tests.{leb-true, le-leb}
+use lib.Dec.{lit≤}
 use lib.IntN.{ℤ}
 use mir.Syntax.{w8}
 use mir.Val.{toZ, ofZ}
@@ -19,6 +22,7 @@ use Rattle.craft_context.specs.declared.context.CraftContext.{CraftContext}
 use Rattle.craft_context.specs.Limits.{ContextIn, contextTests}
 use Rattle.craft_context.specs.LimitLaws.{context-in, durable-raised}
 use Rattle.craft_state.specs.Limits.{durabilityLeast, buffsInside, stateInside, stateTest, givenTests}
+use Rattle.craft_state.specs.Start.{startOf}
 use Rattle.craft_state.specs.Inside.{Room, BuffsIn, StateIn, Given}
 use Rattle.craft_state.specs.declared.buffs.Buffs.{Buffs}
 use Rattle.craft_state.specs.declared.state.CraftState.{CraftState}
@@ -83,3 +87,24 @@ given-in context state e p =
 -- a byte that is read back from its bits is itself
 pub room-read : {d most : ℤ} → Room d most → (toZ w8 (ofZ w8 d) ≡ d) × (toZ w8 (ofZ w8 most) ≡ most)
 room-read {d} {most} r = (toZ-ofZ w8 d (fits8 d (omega arith) (omega arith)), toZ-ofZ w8 most (fits8 most (omega arith) (omega arith)))
+
+-- ---- the start
+
+pub start-in : (c : CraftContext) → ContextIn c → Given c (startOf c)
+unfolding startOf
+start-in c h =
+    let most = durable-raised (c .«durability_max») (h .durability) in
+    record {
+      context = h;
+      state =
+          record {
+            step = le-refl _;
+            progress = zero-le;
+            quality = le-trans (h .startingQuality) (lit≤ tt);
+            room = record { from = omega (arith, most .0); to = le-refl _; above = most .0; top = most .1 };
+            cp = le-refl _;
+            combo = refl;
+            buffs = record { quiet = zero-le; wasteNot = zero-le; wasteNotII = zero-le; manipulation = zero-le; greatStrides = zero-le; innovation = zero-le; veneration = zero-le; muscleMemory = zero-le };
+            last = refl;
+          };
+    }

@@ -1,4 +1,4 @@
 pub mod Limits
+pub mod Start
 pub mod Inside
 pub mod InsideLaws
-pub mod Start

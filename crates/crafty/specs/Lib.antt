@@ -1,3 +1,4 @@
 pub mod Room
 pub mod Actions
 pub mod States
+pub mod Replays

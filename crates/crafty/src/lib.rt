@@ -1,6 +1,7 @@
 // The public face of the engine. Every entry takes any numbers and bytes, and refuses what is outside the limits by document 01's numbers.
 // The entries over sets and contexts are the methods of `ActionSet` and `CraftContext`; a craft starts by `CraftState::new`.
 mod actions;
+mod replays;
 mod room;
 mod states;
 
@@ -40,8 +41,11 @@ pub use refusal::Also;
 pub use refusal::Checked;
 pub use refusal::Refusal;
 pub use refusal::Report;
+pub use replays::Replayed;
+pub use replays::replay;
 pub use room::Written;
 pub use score::CraftResult;
+pub use simulator::Replay;
 pub use states::Allowed;
 pub use states::Judged;
 pub use states::Scored;

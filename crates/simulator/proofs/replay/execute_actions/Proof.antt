@@ -1,0 +1,75 @@
+-- `simulator::replay::execute_actions` meets its contract.
+-- Assumes nothing.
+use mathlib.Core.Path.{_≡_, sym, _∙_}
+use mathlib.Core.Bool.{false}
+use Prim.Native.Nat.{_≤_, _<_, _-_}
+use native.Mathlib.Omega.{arith}
+use lib.ListN.{length, drop, getD}
+use borrow.Author.Tests.{not-true, not-false}
+use Rattle.action.specs.Known.{actions}
+use Rattle.action.specs.KnownLaws.{known-each}
+use Rattle.craft_state.specs.Inside.{Given}
+use Rattle.craft_state.specs.InsideLaws.{start-in}
+use Rattle.moves.specs.Moves.{ended}
+use Rattle.moves.specs.MoveLaws.{legal-playable, legal-keeps}
+use Rattle.simulator.specs.Replay.{replayFrom, replayOf}
+use Rattle.simulator.specs.ReplayLaws.{legal-is, replay-stop, place-on, place-slip, place-end}
+use Rattle.simulator.proofs.replay.execute_actions.Statement.{statement}
+use Rattle.simulator.proofs.replay.execute_actions.Tie as tie
+
+-- what is left of the list gives the whole replay, and the state is inside the limits
+abbrev Inv-loop : tie.InvT-loop
+Inv-loop context mode list state₀ i₀ state i = (i ≤ length list) × (replayFrom context mode state i (drop i list) ≡ replayOf context mode list) × Given context state
+
+abbrev μ-loop : tie.MeasureT-loop
+μ-loop context mode list state₀ i₀ state i = length list - i
+
+going : (c : tie.Else1 Inv-loop μ-loop) → ended (c .before .before .before .before .before .args .context) (c .before .before .loop .state) ≡ false
+going c = sym (c .before .has-ended .ensures) ∙ c .if1 .left
+
+-- the next action is known
+known : (c : tie.After-shared-slice-known2 Inv-loop μ-loop) → getD (c .before .before .before .before .before .before .before .args .list .now) (c .before .before .before .before .loop .i) 0 < actions
+known c = known-each _ (c .before .before .before .before .before .before .before .pre .1) _ (omega arith)
+
+pub execute-actions-spec : {M : Type 1} → statement M
+unfolding replayOf
+execute-actions-spec =
+    tie.close
+    (tie.spec
+    Inv-loop
+    μ-loop
+    (λ c κs. tt)
+    (λ c. (omega arith, simp (c .fresh .ensures), rw (c .fresh .ensures) (start-in _ (c .before .before .pre .0))))
+    (λ c κs. tt)
+    (λ c κs. c .before .before .loop .inv .2)
+    (λ c κs. c .before .before .before .loop .inv .2)
+    (λ c. omega arith)
+    (λ c κs. (c .before .before .before .before .loop .inv .2, known c))
+    (λ c κs. c .before .before .before .before .before .before .loop .inv .2)
+    (λ c κs.
+    let k = c .before .before in
+    let l = k .before .before .before .before .loop in
+    legal-playable _ (l .state) _ _ (l .inv .2) (known k) (legal-is _ _ (l .state) _ (known k) (going (k .before .before)) (sym (c .before .passes .ensures) ∙ not-false _ (c .if3 .left))))
+    (λ c. omega arith)
+    (λ c. omega arith)
+    (λ c.
+    let p = c .before in
+    let k = p .before .before in
+    let l = k .before .before .before .before .loop in
+    let s = k .before .before .before .before .before .before .before in
+    let t = sym (p .before .passes .ensures) ∙ not-false _ (p .if3 .left) in
+    (omega arith, rw (c .execute .ensures) (sym (place-on _ _ (l .state) (s .args .list .now) (l .i) (omega arith) (known k) (going (k .before .before)) t) ∙ l .inv .1), rw (c .execute .ensures) (legal-keeps _ (l .state) _ _ (l .inv .2) (known k) (legal-is _ _ (l .state) _ (known k) (going (k .before .before)) t))))
+    (λ c.
+    let e = c .before .before in
+    let l = e .before .loop in
+    c .stop .ensures ∙ sym (replay-stop _ _ (l .state) (l .i) _ (sym (e .has-ended .ensures) ∙ c .before .if1 .taken)) ∙ l .inv .1)
+    (λ c.
+    let l = c .before .before .before .before .loop in
+    let s = c .before .before .before .before .before .before .before in
+    c .stop2 .ensures ∙ sym (place-end _ _ (l .state) (s .args .list .now) (l .i) (l .inv .0) (omega arith)) ∙ l .inv .1)
+    (λ c.
+    let p = c .before in
+    let k = p .before .before in
+    let l = k .before .before .before .before .loop in
+    let s = k .before .before .before .before .before .before .before in
+    c .slip .ensures ∙ sym (place-slip _ _ (l .state) (s .args .list .now) (l .i) (omega arith) (known k) (going (k .before .before)) (sym (p .before .passes .ensures) ∙ not-true _ (p .if3 .taken))) ∙ l .inv .1))

@@ -1,0 +1,73 @@
+// Replay in a mode: action after action, each tested where it stands.
+ghost use mathlib.Core.Path.{_≡_};
+ghost use Prim.Native.Nat.{_≤_};
+ghost use lib.ListN.{length};
+ghost use Rattle.action.specs.Known.{knownFront};
+ghost use Rattle.craft_context.specs.Limits.{ContextIn};
+ghost use Rattle.craft_state.specs.Inside.{Given};
+ghost use Rattle.simulator.specs.Replay.{stopOf, slipOf, replayOf};
+use action_set::ActionSet;
+use craft_context::CraftContext;
+use craft_state::CraftState;
+use craft_state::fresh;
+use moves::Mode;
+use score::CraftResult;
+
+// The state where a replay stopped, its moves, its result, and how many actions were executed.
+pub struct Replay {
+    pub state: CraftState,
+    pub moves: ActionSet,
+    pub result: CraftResult,
+    pub executed: usize,
+}
+
+// The craft has ended, or the list: the moves are worked out here and only here.
+fn stop(context: CraftContext, mode: Mode, state: CraftState, executed: usize) -> Replay
+    requires { ⌜ Given context state ⌝ }
+    ensures { λ r. ⌜ r ≡ stopOf context mode state executed ⌝ }
+{
+    let moves = moves::legal_moves(context, state, mode);
+    Replay {
+        state,
+        moves: ActionSet(moves),
+        result: score::judge(context, state, moves),
+        executed,
+    }
+}
+
+// The next action is not among the moves.
+fn slip(context: CraftContext, mode: Mode, state: CraftState, executed: usize) -> Replay
+    requires { ⌜ Given context state ⌝ }
+    ensures { λ r. ⌜ r ≡ slipOf context mode state executed ⌝ }
+{
+    Replay {
+        state,
+        moves: ActionSet(moves::legal_moves(context, state, mode)),
+        result: CraftResult::InvalidActionFailure,
+        executed,
+    }
+}
+
+// One loop, broken with its report where it stops.
+pub fn execute_actions(context: CraftContext, mode: Mode, list: &[u8]) -> Replay
+    requires { ⌜ ContextIn context × (length (now list) ≤ knownFront (now list)) ⌝ }
+    ensures { λ r. ⌜ r ≡ replayOf context mode (now (list .entry)) ⌝ }
+{
+    let mut state = fresh(context);
+    let mut i = 0;
+    let report = loop {
+        if moves::has_ended(context, state) {
+            break stop(context, mode, state, i);
+        }
+        if i >= list.len() {
+            break stop(context, mode, state, i);
+        }
+        let n = list[i];
+        if !moves::passes(context, state, mode, n) {
+            break slip(context, mode, state, i);
+        }
+        state = step::execute(context, state, n);
+        i += 1;
+    };
+    report
+}
