@@ -1,6 +1,6 @@
 -- Laws of the moves: which candidates are among them, what that gives to the step, and that strict moves are a part of the plain ones.
 -- Assumes nothing.
-use mathlib.Core.Path.{_≡_, refl, sym, _∙_}
+use mathlib.Core.Path.{_≡_, refl, sym, _∙_, subst}
 use mathlib.Core.Bool.{Bool, true, false, cond, not, _&&_}
 use Prim.Native.Nat.{ℕ, _+_, _≤_, _<_, zero-le}
 use native.Mathlib.Nat.{le-trans}
@@ -64,6 +64,29 @@ module _ (c : CraftContext) (s : CraftState) (mode : Mode) where
       by true = has-high 0 n (pow-pos n)
       by false = has-keep actions (c .«action_pool» .0) (allowsOf c s mode) n h
 
+-- ---- strict mode asks for all that an action's own rule asks
+
+module _ (c : CraftContext) (s : CraftState) (n : ℕ) (row : Attributes) where
+  -- TrainedEye alone, at the first step of a craft that is not expert: its own rule holds
+  eye-own : eyeAlone c s ≡ true → n ≡ A.TrainedEye → ownRule c s n row ≡ true
+  unfolding ownRule
+  eye-own e k =
+      let first = both (eqb (s .step) stepLeast && ltb 0 (c .«quality_target») && not (c .«is_expert»)) (has (c .«action_pool» .0) A.TrainedEye) e .0 in
+      let second = both (eqb (s .step) stepLeast && ltb 0 (c .«quality_target»)) (not (c .«is_expert»)) first in
+      simp (k, both (eqb (s .step) stepLeast) (ltb 0 (c .«quality_target»)) (second .0) .0, second .1)
+
+  strictly-own : strictlyOf c s n row ≡ true → ownRule c s n row ≡ true
+  unfolding strictlyOf
+  strictly-own = by (eyeAlone c s) (λ e t. eye-own e (eqb-true n A.TrainedEye t))
+    where
+      rules : Bool
+      rules =
+          outsideMemory c s (row .«quality_efficiency») && outsideVeneration s (row .«progress_efficiency») (row .«quality_efficiency») && afterObserve s n && mayProgress c s (row .«progress_efficiency») (row .«quality_efficiency»)
+
+      by : (b : Bool) → (b ≡ true → eqb n A.TrainedEye ≡ true → ownRule c s n row ≡ true) → cond b (eqb n A.TrainedEye) (rules && ownRule c s n row && strictRule c s n) ≡ true → ownRule c s n row ≡ true
+      by true f t = f refl t
+      by false f t = both rules (ownRule c s n row) (both (rules && ownRule c s n row) (strictRule c s n) t .0) .1
+
 -- ---- what a legal candidate rests on, by any row
 
 affords-payable : (s : CraftState) (n : ℕ) (row : Attributes) → RowBounds n row → affords s n (row .«cp_cost») ≡ true → Payable (s .cp) (s .«previous_combo_action») n (row .«cp_cost»)
@@ -108,12 +131,22 @@ module _ (c : CraftContext) (s : CraftState) (mode : Mode) (n : ℕ) (row : Attr
         payable = affords-payable s n row bounds (parts .0);
       }
 
+  -- ---- each passes its own rule, in either mode
+
+  pub allowed-own : allowedOf c s mode n row ≡ true → ownRule c s n row ≡ true
+  unfolding allowedOf
+  allowed-own t = by (mode .strict) (both (affords s n (row .«cp_cost») && mayImprove c s (row .«quality_efficiency»)) (cond (mode .strict) (strictlyOf c s n row) (ownRule c s n row)) t .1)
+    where
+      by : (b : Bool) → cond b (strictlyOf c s n row) (ownRule c s n row) ≡ true → ownRule c s n row ≡ true
+      by true t = strictly-own c s n row t
+      by false t = t
+
 -- ---- by the table's row: what is among the moves may be executed, and its price is at most the points
 
 module _ (c : CraftContext) (s : CraftState) (mode : Mode) (n : ℕ) (g : Given c s) (h : n < actions) (t : has (movesOf c s mode) n ≡ true) where
   pub legal-playable : Playable c s n (attributesOf n)
   legal-playable =
-      let parts = both (not (ended c s)) (has (c .«action_pool» .0) n && allowsOf c s mode n) (sym (has-moves c s mode n h) ∙ t) in
+      let parts = both (not (ended c s)) (passesOf c s mode n) (sym (has-moves c s mode n h) ∙ t) in
       allowed-playable c s mode n (attributesOf n) (rows-bounded n h) g h (going c s g (not-true (ended c s) (parts .0))) (both (has (c .«action_pool» .0) n) (allowsOf c s mode n) (parts .1) .1)
 
   pub legal-affordable : chargeOf n (s .«previous_combo_action») (attributesOf n .«cp_cost») ≤ s .cp
@@ -122,6 +155,14 @@ module _ (c : CraftContext) (s : CraftState) (mode : Mode) (n : ℕ) (g : Given 
       by : (cost : Amount) → Payable (s .cp) (s .«previous_combo_action») n cost → chargeOf n (s .«previous_combo_action») cost ≤ s .cp
       by (Of cost) p = p
       by Nothing p = zero-le
+
+  -- QuickInnovation while it is left
+  pub legal-quick : n ≡ A.QuickInnovation → s .«quick_innovation_available» ≡ true
+  unfolding ownRule
+  legal-quick e =
+      let parts = both (not (ended c s)) (passesOf c s mode n) (sym (has-moves c s mode n h) ∙ t) in
+      let own = allowed-own c s mode n (attributesOf n) (both (has (c .«action_pool» .0) n) (allowsOf c s mode n) (parts .1) .1) in
+      both (s .«quick_innovation_available») (eqb (s .buffs .innovation) 0) (subst (λ (m : ℕ). ownRule c s m (attributesOf n) ≡ true) e own) .0
 
   pub legal-keeps : Given c (executeOf c s n)
   legal-keeps = execute-in c s n (attributesOf n) (rows-bounded n h) legal-playable
@@ -138,34 +179,14 @@ abbrev pub strict : Mode
 strict = record { strict = true }
 
 module _ (c : CraftContext) (s : CraftState) (n : ℕ) (row : Attributes) where
-  -- TrainedEye alone, at the first step of a craft that is not expert: its own rule holds
-  eye-own : eyeAlone c s ≡ true → n ≡ A.TrainedEye → ownRule c s n row ≡ true
-  unfolding ownRule
-  eye-own e k =
-      let first = both (eqb (s .step) stepLeast && ltb 0 (c .«quality_target») && not (c .«is_expert»)) (has (c .«action_pool» .0) A.TrainedEye) e .0 in
-      let second = both (eqb (s .step) stepLeast && ltb 0 (c .«quality_target»)) (not (c .«is_expert»)) first in
-      simp (k, both (eqb (s .step) stepLeast) (ltb 0 (c .«quality_target»)) (second .0) .0, second .1)
-
-  strictly-own : strictlyOf c s n row ≡ true → ownRule c s n row ≡ true
-  unfolding strictlyOf
-  strictly-own = by (eyeAlone c s) (λ e t. eye-own e (eqb-true n A.TrainedEye t))
-    where
-      rules : Bool
-      rules =
-          outsideMemory c s (row .«quality_efficiency») && outsideVeneration s (row .«progress_efficiency») (row .«quality_efficiency») && afterObserve s n && mayProgress c s (row .«progress_efficiency») (row .«quality_efficiency»)
-
-      by : (b : Bool) → (b ≡ true → eqb n A.TrainedEye ≡ true → ownRule c s n row ≡ true) → cond b (eqb n A.TrainedEye) (rules && ownRule c s n row && strictRule c s n) ≡ true → ownRule c s n row ≡ true
-      by true f t = f refl t
-      by false f t = both rules (ownRule c s n row) (both (rules && ownRule c s n row) (strictRule c s n) t .0) .1
-
   pub strict-allowed : allowedOf c s strict n row ≡ true → allowedOf c s plain n row ≡ true
   unfolding allowedOf
   strict-allowed t =
       let parts = both (affords s n (row .«cp_cost») && mayImprove c s (row .«quality_efficiency»)) (strictlyOf c s n row) t in
-      and-both (parts .0) (strictly-own (parts .1))
+      and-both (parts .0) (strictly-own c s n row (parts .1))
 
 pub strict-part : (c : CraftContext) (s : CraftState) (n : ℕ) → n < actions → has (movesOf c s strict) n ≡ true → has (movesOf c s plain) n ≡ true
 strict-part c s n h t =
-    let parts = both (not (ended c s)) (has (c .«action_pool» .0) n && allowsOf c s strict n) (sym (has-moves c s strict n h) ∙ t) in
+    let parts = both (not (ended c s)) (passesOf c s strict n) (sym (has-moves c s strict n h) ∙ t) in
     let tests = both (has (c .«action_pool» .0) n) (allowsOf c s strict n) (parts .1) in
     has-moves c s plain n h ∙ and-both (parts .0) (and-both (tests .0) (strict-allowed c s n (attributesOf n) (tests .1)))

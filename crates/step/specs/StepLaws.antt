@@ -18,7 +18,7 @@ use Rattle.craft_state.specs.declared.state.CraftState.{CraftState}
 use Rattle.craft_state.specs.Limits.{stepLeast}
 use Rattle.craft_state.specs.Inside.{Room, BuffsIn, StateIn, Given}
 use Rattle.step.specs.Durability.{refreshed-room}
-use Rattle.step.specs.Parts.{stepAfter, tickedOf}
+use Rattle.step.specs.Parts.{stepAfter, comboAfter, tickedOf, quickAfter}
 use Rattle.step.specs.PartLaws.{progress-at-most, progress-rises, quality-at-most, quality-rises, used-up-at-most, quiet-at-most, durability-room, mend-room, points-at-most, points-paid, combo-agrees, ticked-in, effect-in}
 use Rattle.step.specs.Step.{begunOf, progressedOf, improvedOf, wornOf, refreshedOf, paidOf, combinedOf, timedOf, affectedOf, executedOf}
 use Rattle.step.specs.Asked.{Payable, Playable, Progressing, Touching}
@@ -142,6 +142,14 @@ module _ (c : CraftContext) (s : CraftState) (n : ℕ) (row : Attributes) where
   pub execute-step : executedOf c s n row .step ≡ stepAfter n (s .step)
   unfolding executedOf begunOf progressedOf improvedOf wornOf refreshedOf paidOf combinedOf timedOf affectedOf
   execute-step = refl
+
+  pub execute-combo : executedOf c s n row .«previous_combo_action» ≡ comboAfter (s .«previous_combo_action») n
+  unfolding executedOf begunOf progressedOf improvedOf wornOf refreshedOf paidOf combinedOf timedOf affectedOf
+  execute-combo = refl
+
+  pub execute-quick : executedOf c s n row .«quick_innovation_available» ≡ quickAfter n (s .«quick_innovation_available»)
+  unfolding executedOf begunOf progressedOf improvedOf wornOf refreshedOf paidOf combinedOf timedOf affectedOf
+  execute-quick = refl
 
   pub progress-never-falls : s .progress ≤ executedOf c s n row .progress
   unfolding executedOf begunOf progressedOf improvedOf wornOf refreshedOf paidOf combinedOf timedOf affectedOf

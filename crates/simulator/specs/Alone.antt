@@ -1,0 +1,40 @@
+-- What is read from a list of actions alone, with no state in it: the price of each action, and which of them are steps.
+-- Assumes nothing.
+use mathlib.Core.Bool.{Bool, cond, _&&_, _||_}
+use mathlib.Core.List.{List, [], _∷_}
+use Prim.Native.Nat.{ℕ, _+_}
+use lib.Dec.{eqb}
+use Rattle.action.specs.Actions as A
+use Rattle.action.specs.Limits.{discountPrice}
+use Rattle.action.specs.Table.{attributesOf}
+use Rattle.action.specs.declared.table.Amount.{Amount}
+use Rattle.action.specs.declared.table.Amount.the-variants.{Of, Nothing}
+use Rattle.craft_state.specs.declared.state.Last.{Last}
+use Rattle.craft_state.specs.declared.state.Last.the-variants as L
+use Rattle.craft_state.specs.Limits.{wasOf}
+
+-- an action after `last`, which itself stands after `older`:
+-- StandardTouch directly after BasicTouch; AdvancedTouch directly after Observe, or after a StandardTouch itself directly after BasicTouch
+abbrev pub discountedAfter : Last → Last → ℕ → Bool
+discountedAfter older last n =
+    eqb n A.StandardTouch && wasOf last A.BasicTouch || eqb n A.AdvancedTouch && (wasOf last A.Observe || wasOf last A.StandardTouch && wasOf older A.BasicTouch)
+
+abbrev pub paidFor : Bool → Amount → ℕ
+paidFor discounted (Of cost) = cond discounted discountPrice cost
+paidFor discounted Nothing = 0
+
+abbrev pub priceAfter : Last → Last → ℕ → ℕ
+priceAfter older last n = paidFor (discountedAfter older last n) (attributesOf n .«cp_cost»)
+
+unfoldable pub pricesAfter : Last → Last → List ℕ → ℕ
+pricesAfter older last [] = 0
+pricesAfter older last (n ∷ rest) = priceAfter older last n + pricesAfter last (L.Was n) rest
+
+-- of a whole list
+abbrev pub pricesOf : List ℕ → ℕ
+pricesOf list = pricesAfter L.Nothing L.Nothing list
+
+-- the actions other than QuickInnovation
+unfoldable pub stepsIn : List ℕ → ℕ
+stepsIn [] = 0
+stepsIn (n ∷ rest) = cond (eqb n A.QuickInnovation) 0 1 + stepsIn rest
