@@ -24,5 +24,6 @@ pub fn replay(context: CraftContext, mode: Mode, list: &[u8]) -> Replayed
     if let Checked::Refused(x) = known {
         return Replayed::Refused(x);
     }
-    Replayed::Report(simulator::execute_actions(context, mode, list))
+    let report = simulator::execute_actions(context, mode, list);
+    Replayed::Report(report)
 }

@@ -1,7 +1,7 @@
 -- Demand 3, shown of every replay. The table is met only through `RowBounds`, in the laws of moves and step.
 -- Assumes nothing.
 use mathlib.Core.Path.{_≡_, refl, sym, ap, _∙_, subst}
-use mathlib.Core.Bool.{Bool, true, false, cond, not, _&&_}
+use mathlib.Core.Bool.{Bool, true, false, cond, not}
 use mathlib.Core.List.{List, [], _∷_}
 use Prim.Native.Nat.{ℕ, zero, suc, _+_, _≤_, _<_, zero-le}
 use native.Mathlib.Nat.{le-trans, le-refl, le-of-eq, le-antisymm, add-zero, zero-add, le-of-suc-le-suc, not-suc-le-zero, min-eq-left}

@@ -1,7 +1,7 @@
 -- How the definition of a replay unrolls, as the loop takes it: by whether the state has ended, and whether the next action passes.
 -- Assumes nothing.
 use mathlib.Core.Path.{_≡_, refl, sym, ap, _∙_}
-use mathlib.Core.Bool.{Bool, true, false, cond, not, _&&_, _||_}
+use mathlib.Core.Bool.{Bool, true, false, cond, _||_}
 use mathlib.Core.List.{List, [], _∷_}
 use Prim.Native.Nat.{ℕ, _+_, _≤_, _<_}
 use native.Mathlib.Nat.{le-antisymm}
@@ -23,11 +23,9 @@ use Rattle.step.specs.Step.{executeOf}
 use Rattle.moves.specs.declared.mode.Mode.{Mode}
 use Rattle.moves.specs.Moves.{passesOf, ended, movesOf}
 use Rattle.moves.specs.MoveLaws.{has-moves}
-use Rattle.score.specs.declared.result.CraftResult.{CraftResult}
 use Rattle.score.specs.declared.result.CraftResult.the-variants as R
 use Rattle.score.specs.Score.{scoreOf}
 use Rattle.score.specs.Result.{judgedBy, resultOf}
-use Rattle.simulator.specs.declared.replay.Replay.{Replay}
 use Rattle.simulator.specs.Replay.{goesOn, stopOf, slipOf, replayFrom}
 
 module _ (c : CraftContext) (mode : Mode) (s : CraftState) where

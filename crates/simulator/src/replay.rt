@@ -5,6 +5,7 @@ ghost use lib.ListN.{length};
 ghost use Rattle.action.specs.Known.{knownFront};
 ghost use Rattle.craft_context.specs.Limits.{ContextIn};
 ghost use Rattle.craft_state.specs.Inside.{Given};
+ghost use Rattle.score.specs.Result.{Sound};
 ghost use Rattle.simulator.specs.Replay.{stopOf, slipOf, replayOf};
 use action_set::ActionSet;
 use craft_context::CraftContext;
@@ -24,7 +25,7 @@ pub struct Replay {
 // The craft has ended, or the list: the moves are worked out here and only here.
 fn stop(context: CraftContext, mode: Mode, state: CraftState, executed: usize) -> Replay
     requires { ⌜ Given context state ⌝ }
-    ensures { λ r. ⌜ r ≡ stopOf context mode state executed ⌝ }
+    ensures { λ r. ⌜ (r ≡ stopOf context mode state executed) × Sound (r .result) ⌝ }
 {
     let moves = moves::legal_moves(context, state, mode);
     Replay {
@@ -38,7 +39,7 @@ fn stop(context: CraftContext, mode: Mode, state: CraftState, executed: usize) -
 // The next action is not among the moves.
 fn slip(context: CraftContext, mode: Mode, state: CraftState, executed: usize) -> Replay
     requires { ⌜ Given context state ⌝ }
-    ensures { λ r. ⌜ r ≡ slipOf context mode state executed ⌝ }
+    ensures { λ r. ⌜ (r ≡ slipOf context mode state executed) × Sound (r .result) ⌝ }
 {
     Replay {
         state,
@@ -51,7 +52,7 @@ fn slip(context: CraftContext, mode: Mode, state: CraftState, executed: usize) -
 // One loop, broken with its report where it stops.
 pub fn execute_actions(context: CraftContext, mode: Mode, list: &[u8]) -> Replay
     requires { ⌜ ContextIn context × (length (now list) ≤ knownFront (now list)) ⌝ }
-    ensures { λ r. ⌜ r ≡ replayOf context mode (now (list .entry)) ⌝ }
+    ensures { λ r. ⌜ (r ≡ replayOf context mode (now (list .entry))) × Sound (r .result) ⌝ }
 {
     let mut state = fresh(context);
     let mut i = 0;

@@ -1,13 +1,14 @@
 -- `simulator::replay::execute_actions` meets its contract.
 -- Assumes nothing.
-use mathlib.Core.Path.{_≡_, sym, _∙_}
+use mathlib.Core.Path.{_≡_, sym, ap, subst, _∙_}
 use mathlib.Core.Bool.{false}
-use Prim.Native.Nat.{_≤_, _<_, _-_}
+use Prim.Native.Nat.{_+_, _≤_, _<_, _-_}
 use native.Mathlib.Omega.{arith}
 use lib.ListN.{length, drop, getD}
 use borrow.Author.Tests.{not-true, not-false}
 use Rattle.action.specs.Known.{actions}
 use Rattle.action.specs.KnownLaws.{known-each}
+use Rattle.craft_state.specs.declared.state.CraftState.{CraftState}
 use Rattle.craft_state.specs.Inside.{Given}
 use Rattle.craft_state.specs.InsideLaws.{start-in}
 use Rattle.moves.specs.Moves.{ended}
@@ -58,18 +59,20 @@ execute-actions-spec =
     let l = k .before .before .before .before .loop in
     let s = k .before .before .before .before .before .before .before in
     let t = sym (p .before .passes .ensures) ∙ not-false _ (p .if3 .left) in
-    (omega arith, rw (c .execute .ensures) (sym (place-on _ _ (l .state) (s .args .list .now) (l .i) (omega arith) (known k) (going (k .before .before)) t) ∙ l .inv .1), rw (c .execute .ensures) (legal-keeps _ (l .state) _ _ (l .inv .2) (known k) (legal-is _ _ (l .state) _ (known k) (going (k .before .before)) t))))
+    let on = place-on _ _ (l .state) (s .args .list .now) (l .i) (omega arith) (known k) (going (k .before .before)) t in
+    let inside = legal-keeps _ (l .state) _ _ (l .inv .2) (known k) (legal-is _ _ (l .state) _ (known k) (going (k .before .before)) t) in
+    (omega arith, ap (λ (x : CraftState). replayFrom (s .args .context) (s .args .mode) x (l .i + 1) (drop (l .i + 1) (s .args .list .now))) (c .execute .ensures) ∙ sym on ∙ l .inv .1, subst (Given (s .args .context)) (sym (c .execute .ensures)) inside))
     (λ c.
     let e = c .before .before in
     let l = e .before .loop in
-    c .stop .ensures ∙ sym (replay-stop _ _ (l .state) (l .i) _ (sym (e .has-ended .ensures) ∙ c .before .if1 .taken)) ∙ l .inv .1)
+    (c .stop .ensures .0 ∙ sym (replay-stop _ _ (l .state) (l .i) _ (sym (e .has-ended .ensures) ∙ c .before .if1 .taken)) ∙ l .inv .1, c .stop .ensures .1))
     (λ c.
     let l = c .before .before .before .before .loop in
     let s = c .before .before .before .before .before .before .before in
-    c .stop2 .ensures ∙ sym (place-end _ _ (l .state) (s .args .list .now) (l .i) (l .inv .0) (omega arith)) ∙ l .inv .1)
+    (c .stop2 .ensures .0 ∙ sym (place-end _ _ (l .state) (s .args .list .now) (l .i) (l .inv .0) (omega arith)) ∙ l .inv .1, c .stop2 .ensures .1))
     (λ c.
     let p = c .before in
     let k = p .before .before in
     let l = k .before .before .before .before .loop in
     let s = k .before .before .before .before .before .before .before in
-    c .slip .ensures ∙ sym (place-slip _ _ (l .state) (s .args .list .now) (l .i) (omega arith) (known k) (going (k .before .before)) (sym (p .before .passes .ensures) ∙ not-true _ (p .if3 .taken))) ∙ l .inv .1))
+    (c .slip .ensures .0 ∙ sym (place-slip _ _ (l .state) (s .args .list .now) (l .i) (omega arith) (known k) (going (k .before .before)) (sym (p .before .passes .ensures) ∙ not-true _ (p .if3 .taken))) ∙ l .inv .1, c .slip .ensures .1)))

@@ -6,4 +6,4 @@ use Rattle.simulator.proofs.replay.slip.Tie as tie
 
 pub slip-spec : {M : Type 1} → statement M
 unfolding slipOf
-slip-spec = tie.close (tie.spec (λ c κs. c .pre) (λ c. simp (c .legal-moves .ensures .0)))
+slip-spec = tie.close (tie.spec (λ c κs. c .pre) (λ c. (simp (c .legal-moves .ensures .0), tt)))
