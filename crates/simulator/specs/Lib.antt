@@ -4,3 +4,4 @@ pub mod Alone
 pub mod Promise
 pub mod AloneLaws
 pub mod PromiseLaws
+pub mod Bench

@@ -5,16 +5,16 @@ use mathlib.Core.Bool.{false}
 use Prim.Native.Nat.{_+_, _≤_, _<_, _-_}
 use native.Mathlib.Omega.{arith}
 use lib.ListN.{length, drop, getD}
-use borrow.Author.Tests.{not-true, not-false}
+use borrow.Author.Needs.{needs}
 use Rattle.action.specs.Known.{actions}
 use Rattle.action.specs.KnownLaws.{known-each}
 use Rattle.craft_state.specs.declared.state.CraftState.{CraftState}
 use Rattle.craft_state.specs.Inside.{Given}
 use Rattle.craft_state.specs.InsideLaws.{start-in}
 use Rattle.moves.specs.Moves.{ended}
-use Rattle.moves.specs.MoveLaws.{legal-playable, legal-keeps}
+use Rattle.moves.specs.MoveLaws.{legal-keeps}
 use Rattle.simulator.specs.Replay.{replayFrom, replayOf}
-use Rattle.simulator.specs.ReplayLaws.{legal-is, replay-stop, place-on, place-slip, place-end}
+use Rattle.simulator.specs.ReplayLaws.{legal-is, next-to, next-outside, replay-stop, place-on, place-slip, place-end}
 use Rattle.simulator.proofs.replay.execute_actions.Statement.{statement}
 use Rattle.simulator.proofs.replay.execute_actions.Tie as tie
 
@@ -40,28 +40,26 @@ execute-actions-spec =
     Inv-loop
     μ-loop
     (λ c κs. tt)
-    (λ c. (omega arith, simp (c .fresh .ensures), rw (c .fresh .ensures) (start-in _ (c .before .before .pre .0))))
+    (λ c. (omega arith, simp (c .fresh .ensures), subst (Given _) (sym (c .fresh .ensures)) (start-in _ (c .before .before .pre .0))))
     (λ c κs. tt)
     (λ c κs. c .before .before .loop .inv .2)
     (λ c κs. c .before .before .before .loop .inv .2)
     (λ c. omega arith)
-    (λ c κs. (c .before .before .before .before .loop .inv .2, known c))
-    (λ c κs. c .before .before .before .before .before .before .loop .inv .2)
-    (λ c κs.
-    let k = c .before .before in
-    let l = k .before .before .before .before .loop in
-    legal-playable _ (l .state) _ _ (l .inv .2) (known k) (legal-is _ _ (l .state) _ (known k) (going (k .before .before)) (sym (c .before .passes .ensures) ∙ not-false _ (c .if3 .left))))
+    (λ c κs. (c .before .before .before .before .loop .inv .2, known c, going (c .before .before)))
+    (λ c. search needs)
+    (λ c. search needs)
+    (λ c κs. c .before .before .before .before .before .before .before .loop .inv .2)
     (λ c. omega arith)
     (λ c. omega arith)
     (λ c.
-    let p = c .before in
-    let k = p .before .before in
+    let a = c .before .before .before in
+    let k = a .before in
     let l = k .before .before .before .before .loop in
     let s = k .before .before .before .before .before .before .before in
-    let t = sym (p .before .passes .ensures) ∙ not-false _ (p .if3 .left) in
-    let on = place-on _ _ (l .state) (s .args .list .now) (l .i) (omega arith) (known k) (going (k .before .before)) t in
-    let inside = legal-keeps _ (l .state) _ _ (l .inv .2) (known k) (legal-is _ _ (l .state) _ (known k) (going (k .before .before)) t) in
-    (omega arith, ap (λ (x : CraftState). replayFrom (s .args .context) (s .args .mode) x (l .i + 1) (drop (l .i + 1) (s .args .list .now))) (c .execute .ensures) ∙ sym on ∙ l .inv .1, subst (Given (s .args .context)) (sym (c .execute .ensures)) inside))
+    let to = next-to (s .args .context) (s .args .mode) (l .state) _ (sym (c .before .next .given .1) ∙ a .advance .ensures) in
+    let on = place-on _ _ (l .state) (s .args .list .now) (l .i) (omega arith) (known k) (going (k .before .before)) (to .0) in
+    let inside = legal-keeps _ (l .state) _ _ (l .inv .2) (known k) (legal-is _ _ (l .state) _ (known k) (going (k .before .before)) (to .0)) in
+    (omega arith, ap (λ (x : CraftState). replayFrom (s .args .context) (s .args .mode) x (l .i + 1) (drop (l .i + 1) (s .args .list .now))) (to .1) ∙ sym on ∙ l .inv .1, subst (Given (s .args .context)) (sym (to .1)) inside))
     (λ c.
     let e = c .before .before in
     let l = e .before .loop in
@@ -71,8 +69,9 @@ execute-actions-spec =
     let s = c .before .before .before .before .before .before .before in
     (c .stop2 .ensures .0 ∙ sym (place-end _ _ (l .state) (s .args .list .now) (l .i) (l .inv .0) (omega arith)) ∙ l .inv .1, c .stop2 .ensures .1))
     (λ c.
-    let p = c .before in
-    let k = p .before .before in
+    let a = c .before .before .before in
+    let k = a .before in
     let l = k .before .before .before .before .loop in
     let s = k .before .before .before .before .before .before .before in
-    (c .slip .ensures .0 ∙ sym (place-slip _ _ (l .state) (s .args .list .now) (l .i) (omega arith) (known k) (going (k .before .before)) (sym (p .before .passes .ensures) ∙ not-true _ (p .if3 .taken))) ∙ l .inv .1, c .slip .ensures .1)))
+    let out = next-outside (s .args .context) (s .args .mode) (l .state) _ (sym (c .before .enum-told .given .1) ∙ a .advance .ensures) in
+    (c .slip .ensures .0 ∙ sym (place-slip _ _ (l .state) (s .args .list .now) (l .i) (omega arith) (known k) (going (k .before .before)) out) ∙ l .inv .1, c .slip .ensures .1)))
