@@ -31,7 +31,7 @@ fn main() -> io::Result<()> {
             write_cases(&generate::cases(number(seed), number(count), &of(kinds)))
         }
         ["answer"] => answer_cases(),
-        ["fixed-states"] => write_states(states::fixed().into_iter()),
+        ["fixed-states"] => write_states(states::fixed_states().into_iter()),
         ["random-states", seed, first, count] => {
             write_states(states::random(number(seed), number(first), number(count)))
         }
@@ -107,7 +107,6 @@ fn answer_states() -> io::Result<()> {
 }
 
 fn count_states() -> io::Result<()> {
-    let mut counts = states::Counts::new();
-    given(states::WIDTH, states::read)?.iter().for_each(|state| counts.count(state));
-    write!(io::stdout(), "{counts}")
+    let states = given(states::WIDTH, states::read)?;
+    write!(io::stdout(), "{}", states::counts(&states))
 }
