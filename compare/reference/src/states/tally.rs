@@ -24,6 +24,8 @@ pub enum Event {
     Executed(Mode, usize),
     Discounted(Mode, usize),
     Decided(Mode, Decision),
+    /// Replay met an action outside the moves.
+    Illegal(Mode),
     /// The least and the greatest number of actions executed.
     Length(Mode, usize, usize),
 }
@@ -47,6 +49,7 @@ impl fmt::Display for Event {
                 write!(out, "{mode} combo price of {} on {}", action.name(), combo.name())
             }
             Event::Decided(mode, decision) => write!(out, "{mode} rule {decision}"),
+            Event::Illegal(mode) => write!(out, "{mode} stopped by an illegal action"),
             Event::Length(mode, least, most) => write!(out, "{mode} length {least} to {most}"),
         }
     }
