@@ -4,7 +4,7 @@ use super::line::LIST_MOST;
 use crate::random::Random;
 use crate::states::mode::Mode;
 use crate::states::random_state::next_move;
-use crafty::{Action, CraftContext, CraftState};
+use crafty::{Action, CraftContext, CraftResult, CraftState};
 
 pub const MENDS: [Action; 3] = [Action::MastersMend, Action::Manipulation, Action::ImmaculateMend];
 /// A craft so worn is mostly mended.
@@ -29,7 +29,7 @@ fn way(random: &mut Random, context: &CraftContext, mode: Mode) -> Vec<Action> {
     while list.len() < length {
         let is_slip = slips && random.one_in(16);
         let chosen =
-            if is_slip { Some(random.any(Action::ACTIONS)) } else { legal(random, &state) };
+            if is_slip { Some(random.any(Action::ACTIONS)) } else { legal(random, mode, &state) };
         let Some(action) = chosen else { break };
         if state.available_moves.contains(action) {
             state = mode.execute(&state, action);
@@ -49,16 +49,22 @@ fn length(random: &mut Random) -> usize {
     }
 }
 
-/// Mostly one after which the craft goes on: a mend where it is worn, and no Observe that nothing may follow.
-fn legal(random: &mut Random, state: &CraftState) -> Option<Action> {
-    let is_legal = |action: &Action| state.available_moves.contains(*action);
-    let mends: Vec<Action> = MENDS.into_iter().filter(is_legal).collect();
+/// A mend where the craft is worn, and else mostly a move that leaves it others, so that it goes on.
+fn legal(random: &mut Random, mode: Mode, state: &CraftState) -> Option<Action> {
+    let mends = MENDS.into_iter().filter(|mend| state.available_moves.contains(*mend));
+    let mends: Vec<Action> = mends.collect();
     if state.durability <= WORN && !mends.is_empty() && !random.one_in(16) {
         return Some(random.any(&mends));
     }
-    let chosen = next_move(random, state);
-    if chosen == Some(Action::Observe) && !is_legal(&Action::AdvancedTouch) {
-        return next_move(random, state);
+    let chosen = next_move(random, state)?;
+    if is_dead_end(&mode.execute(state, chosen)) && !random.one_in(8) {
+        let mut others = state.clone();
+        others.available_moves.unset(chosen);
+        return next_move(random, &others).or(Some(chosen));
     }
-    chosen
+    Some(chosen)
+}
+
+fn is_dead_end(state: &CraftState) -> bool {
+    matches!(state.check_result(), Some(CraftResult::InvalidActionFailure))
 }
