@@ -8,6 +8,19 @@ pub enum Craft {
     Replay(Replay),
 }
 
+/// The fixed lists of both.
+pub fn fixed() -> impl Iterator<Item = Craft> {
+    let states = states::fixed().into_iter().map(Craft::State);
+    states.chain(replays::fixed().into_iter().map(Craft::Replay))
+}
+
+pub fn write(craft: &Craft) -> Vec<u8> {
+    match craft {
+        Craft::State(numbers) => states::write(numbers),
+        Craft::Replay(replay) => replays::write(replay),
+    }
+}
+
 pub fn read(line: &[u8]) -> Option<Craft> {
     states::read(line).map(Craft::State).or_else(|| replays::read(line).map(Craft::Replay))
 }

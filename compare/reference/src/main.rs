@@ -1,7 +1,7 @@
 //! The Rust's side of the comparison: `fixed`, `edges` and `random SEED COUNT KIND..` write cases, `answer`
 //! reads cases from standard input and writes one line for each. Of craft states and replays, whose lines are
 //! wider: `fixed-states`, `random-states SEED FIRST COUNT`, and `count-states`, what they meet; the same of
-//! replays; and `answer-crafts`, of either.
+//! replays; and of both `fixed-crafts`, and `answer-crafts`.
 
 mod actions;
 mod case;
@@ -24,7 +24,8 @@ use std::io::{self, Read, Write};
 
 const COMMANDS: &str = "fixed | edges | random SEED COUNT KIND.. | answer \
     | fixed-states | random-states SEED FIRST COUNT | count-states \
-    | fixed-replays | random-replays SEED FIRST COUNT | count-replays | answer-crafts";
+    | fixed-replays | random-replays SEED FIRST COUNT | count-replays \
+    | fixed-crafts | answer-crafts";
 
 fn main() -> io::Result<()> {
     let arguments: Vec<String> = std::env::args().skip(1).collect();
@@ -36,7 +37,7 @@ fn main() -> io::Result<()> {
             write_cases(&generate::cases(number(seed), number(count), &of(kinds)))
         }
         ["answer"] => answer_cases(),
-        ["fixed-states"] => write_lines(states::fixed_states().into_iter(), states::write),
+        ["fixed-states"] => write_lines(states::fixed().into_iter(), states::write),
         ["random-states", seed, first, count] => {
             let states = states::random(number(seed), number(first), number(count));
             write_lines(states, states::write)
@@ -48,6 +49,7 @@ fn main() -> io::Result<()> {
             write_lines(replays, replays::write)
         }
         ["count-replays"] => write_counts(replays::read, replays::counts),
+        ["fixed-crafts"] => write_lines(crafts::fixed(), crafts::write),
         ["answer-crafts"] => answer_crafts(),
         _ => fail(format!("one of: {COMMANDS}")),
     }

@@ -19,6 +19,6 @@ pub mod tally;
 
 pub use answer::answer;
 pub use count::counts;
-pub use fixed::states as fixed_states;
+pub use fixed::states as fixed;
 pub use generate::states as random;
 pub use line::{read, write, Numbers, WIDTH};
