@@ -49,6 +49,31 @@ pub mod recipe {
 #[allow(warnings)]
 pub mod simulator {
     include!(concat!(env!("CRAFTY_SRC"), "/crafty/src/simulator.rs"));
+
+    impl<'a> Simulator<'a> {
+        /// What `simulate` leaves out: how many of the actions it executes.
+        pub fn executed(context: &'a CraftContext, actions: Vec<Action>) -> usize {
+            let mut sim = Self::from_context(context, SearchOptions::default());
+            let (index, _) = sim.execute_actions(0, actions);
+            sim.depth(index)
+        }
+
+        /// A strict replay from a strict start: where it stops, its result, and how many it executes.
+        pub fn simulate_strict(
+            context: &'a CraftContext,
+            actions: Vec<Action>,
+        ) -> (CraftState<'a>, Option<CraftResult>, usize) {
+            let start = CraftState::new_strict(context);
+            let mut sim = Self::from_state(start, SearchOptions::default());
+            let (index, result) = sim.execute_actions_strict(0, actions);
+            (sim.tree.get(index).state.clone(), result, sim.depth(index))
+        }
+
+        fn depth(&self, index: usize) -> usize {
+            let parent = |index: &usize| self.tree.get(*index).parent;
+            std::iter::successors(Some(index), parent).skip(1).count()
+        }
+    }
 }
 
 #[allow(warnings)]
@@ -62,3 +87,4 @@ pub use craft_context::{CraftContext, CraftOptions};
 pub use craft_state::{Buffs, CraftResult, CraftState};
 pub use player::Player;
 pub use recipe::Recipe;
+pub use simulator::Simulator;

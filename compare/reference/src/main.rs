@@ -1,25 +1,31 @@
 //! The Rust's side of the comparison: `fixed`, `edges` and `random SEED COUNT KIND..` write cases, `answer`
-//! reads cases from standard input and writes one line for each. Of craft states, whose lines are wider:
-//! `fixed-states`, `random-states SEED FIRST COUNT`, `answer-states`, and `count-states`, what they meet.
+//! reads cases from standard input and writes one line for each. Of craft states and replays, whose lines are
+//! wider: `fixed-states`, `random-states SEED FIRST COUNT`, and `count-states`, what they meet; the same of
+//! replays; and of both `fixed-crafts`, and `answer-crafts`.
 
 mod actions;
 mod case;
 mod contexts;
+mod crafts;
 mod edges;
 mod fixed;
 mod formulas;
 mod generate;
 mod random;
 mod refusal;
+mod replays;
 mod room;
 mod sets;
 mod states;
 
 use case::{Case, LAST_KIND, WIDTH};
+use states::tally::Tally;
 use std::io::{self, Read, Write};
 
 const COMMANDS: &str = "fixed | edges | random SEED COUNT KIND.. | answer \
-    | fixed-states | random-states SEED FIRST COUNT | answer-states | count-states";
+    | fixed-states | random-states SEED FIRST COUNT | count-states \
+    | fixed-replays | random-replays SEED FIRST COUNT | count-replays \
+    | fixed-crafts | answer-crafts";
 
 fn main() -> io::Result<()> {
     let arguments: Vec<String> = std::env::args().skip(1).collect();
@@ -31,12 +37,20 @@ fn main() -> io::Result<()> {
             write_cases(&generate::cases(number(seed), number(count), &of(kinds)))
         }
         ["answer"] => answer_cases(),
-        ["fixed-states"] => write_states(states::fixed().into_iter()),
+        ["fixed-states"] => write_lines(states::fixed().into_iter(), states::write),
         ["random-states", seed, first, count] => {
-            write_states(states::random(number(seed), number(first), number(count)))
+            let states = states::random(number(seed), number(first), number(count));
+            write_lines(states, states::write)
         }
-        ["answer-states"] => answer_states(),
-        ["count-states"] => count_states(),
+        ["count-states"] => write_counts(states::read, states::counts),
+        ["fixed-replays"] => write_lines(replays::fixed().into_iter(), replays::write),
+        ["random-replays", seed, first, count] => {
+            let replays = replays::random(number(seed), number(first), number(count));
+            write_lines(replays, replays::write)
+        }
+        ["count-replays"] => write_counts(replays::read, replays::counts),
+        ["fixed-crafts"] => write_lines(crafts::fixed(), crafts::write),
+        ["answer-crafts"] => answer_crafts(),
         _ => fail(format!("one of: {COMMANDS}")),
     }
 }
@@ -92,22 +106,23 @@ fn answer(case: &Case) -> String {
     }
 }
 
-fn write_states(mut states: impl Iterator<Item = states::Numbers>) -> io::Result<()> {
+fn write_lines<T>(crafts: impl Iterator<Item = T>, line: fn(&T) -> Vec<u8>) -> io::Result<()> {
     let mut out = io::BufWriter::new(io::stdout());
-    states.try_for_each(|state| out.write_all(&states::write(&state)))?;
-    out.flush()
-}
-
-fn answer_states() -> io::Result<()> {
-    let mut out = io::BufWriter::new(io::stdout());
-    for state in given(states::WIDTH, states::read)? {
-        writeln!(out, "{}", states::answer(&state))?;
+    for craft in crafts {
+        out.write_all(&line(&craft))?;
     }
     out.flush()
 }
 
-fn count_states() -> io::Result<()> {
-    let mut counts = states::Counts::new();
-    given(states::WIDTH, states::read)?.iter().for_each(|state| counts.count(state));
-    write!(io::stdout(), "{counts}")
+fn answer_crafts() -> io::Result<()> {
+    let mut out = io::BufWriter::new(io::stdout());
+    for craft in given(states::WIDTH, crafts::read)? {
+        writeln!(out, "{}", crafts::answer(&craft))?;
+    }
+    out.flush()
+}
+
+fn write_counts<T>(read: fn(&[u8]) -> Option<T>, counts: fn(&[T]) -> Tally) -> io::Result<()> {
+    let crafts = given(states::WIDTH, read)?;
+    write!(io::stdout(), "{}", counts(&crafts))
 }

@@ -7,6 +7,11 @@ impl Random {
         Random(seed)
     }
 
+    /// For one of many in a run, so that the run may be cut into batches anywhere.
+    pub fn numbered(seed: u64, number: u64) -> Random {
+        Random((seed << 32) + number)
+    }
+
     pub fn bits(&mut self) -> u32 {
         self.0 = self.0.wrapping_add(0x9E37_79B9_7F4A_7C15);
         let mixed = (self.0 ^ (self.0 >> 30)).wrapping_mul(0xBF58_476D_1CE4_E5B9);
@@ -29,5 +34,9 @@ impl Random {
 
     pub fn place(&mut self, length: usize) -> usize {
         self.below(length as u32) as usize
+    }
+
+    pub fn any<T: Copy>(&mut self, values: &[T]) -> T {
+        values[self.place(values.len())]
     }
 }

@@ -12,17 +12,33 @@ pub enum Refusal {
     RoomTooShort { needed: usize },
 }
 
+impl Refusal {
+    pub fn number(self) -> u8 {
+        match self {
+            Refusal::Outside => 1,
+            Refusal::OutsideState => 2,
+            Refusal::UnknownAction { .. } => 3,
+            Refusal::IllegalMove => 4,
+            Refusal::UnknownWord => 5,
+            Refusal::RoomTooShort { .. } => 6,
+        }
+    }
+
+    fn also(self) -> Option<usize> {
+        match self {
+            Refusal::UnknownAction { place } => Some(place),
+            // A name is one word, so its offset is always 0.
+            Refusal::UnknownWord => Some(0),
+            Refusal::RoomTooShort { needed } => Some(needed),
+            _ => None,
+        }
+    }
+}
+
 impl fmt::Display for Refusal {
     fn fmt(&self, out: &mut fmt::Formatter) -> fmt::Result {
-        match self {
-            Refusal::Outside => write!(out, "refused 1"),
-            Refusal::OutsideState => write!(out, "refused 2"),
-            Refusal::UnknownAction { place } => write!(out, "refused 3 {place}"),
-            Refusal::IllegalMove => write!(out, "refused 4"),
-            // A name is one word, so its offset is always 0.
-            Refusal::UnknownWord => write!(out, "refused 5 0"),
-            Refusal::RoomTooShort { needed } => write!(out, "refused 6 {needed}"),
-        }
+        write!(out, "refused {}", self.number())?;
+        self.also().map_or(Ok(()), |value| write!(out, " {value}"))
     }
 }
 

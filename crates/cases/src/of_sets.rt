@@ -41,21 +41,9 @@ fn highest(answer: Highest) {
     }
 }
 
-// In a case an action of a list is one byte, 64 more than its number.
-fn unmark(text: &[u8], list: &mut [u8]) {
-    let mut k = 0;
-    while k < text.len() {
-        if k >= list.len() {
-            return;
-        }
-        list[k] = text[k] % 64;
-        k += 1;
-    }
-}
-
 fn from_list(text: &[u8]) {
     let mut list = [0u8; 36];
-    unmark(text, &mut list);
+    case::unmark(text, &mut list);
     let length = text.len();
     if length <= 36 {
         changed(ActionSet::from_list(&list[..length]));

@@ -1,4 +1,4 @@
-// The line of a case: its kind in two digits, numbers of ten digits each, and in a case of `cases` 36 bytes of text.
+// The line of a case: its kind in two digits, numbers of ten digits each, and bytes of text in a case of `cases` and a replay.
 ghost use Prim.Native.Nat.{_<_};
 use crafty::Combo;
 
@@ -58,14 +58,32 @@ pub fn combo(line: &[u8], i: usize) -> Combo
     }
 }
 
+// Bytes of the line from a place on, where there is room for so many; else the whole line.
+pub fn span(line: &[u8], start: usize, room: usize, length: usize) -> &[u8]
+    requires { ⌜ (start < 1000) × (room < 1000) ⌝ }
+{
+    if line.len() < start + room {
+        return line;
+    }
+    if length > room {
+        return line;
+    }
+    &line[start..start + length]
+}
+
 // The text: its length is the first number.
 pub fn text(line: &[u8]) -> &[u8] {
-    let length = number(line, 0) as usize;
-    if line.len() < TEXT + TEXT_ROOM {
-        return line;
+    span(line, TEXT, TEXT_ROOM, number(line, 0) as usize)
+}
+
+// In a line an action of a list is one byte, 64 more than its number.
+pub fn unmark(text: &[u8], list: &mut [u8]) {
+    let mut k = 0;
+    while k < text.len() {
+        if k >= list.len() {
+            return;
+        }
+        list[k] = text[k] % 64;
+        k += 1;
     }
-    if length > TEXT_ROOM {
-        return line;
-    }
-    &line[TEXT..TEXT + length]
 }

@@ -3,7 +3,6 @@ use super::show;
 use super::state;
 use crafty::Allowed;
 use crafty::CraftContext;
-use crafty::CraftResult;
 use crafty::CraftState;
 use crafty::Judged;
 use crafty::Mode;
@@ -33,26 +32,11 @@ fn put_moves(room: &mut [u8], at: usize, c: CraftContext, s: CraftState, mode: M
     }
 }
 
-fn put_finished(room: &mut [u8], at: usize, score: f32) -> usize {
-    let word = page::bytes(room, at, b"finished ");
-    page::float(room, word, score)
-}
-
-fn put_result(room: &mut [u8], at: usize, result: CraftResult) -> usize {
-    match result {
-        CraftResult::Finished(score) => put_finished(room, at, score),
-        CraftResult::DurabilityFailure => page::bytes(room, at, b"durability"),
-        CraftResult::MaxStepsFailure => page::bytes(room, at, b"steps"),
-        CraftResult::InvalidActionFailure => page::bytes(room, at, b"invalid"),
-        CraftResult::Continuing => page::bytes(room, at, b"continuing"),
-    }
-}
-
 fn put_judged(room: &mut [u8], at: usize, c: CraftContext, s: CraftState, mode: Mode) -> usize {
     let part = page::bytes(room, at, b"; ");
     let judged = crafty::result(c, s, mode);
     match judged {
-        Judged::Result(result) => put_result(room, part, result),
+        Judged::Result(result) => show::put_result(room, part, result),
         Judged::Refused(x) => page::refused(room, part, x),
     }
 }

@@ -1,8 +1,10 @@
-// Answers the states of compare/ on standard input, a line for each: docs/COMPARISON.md has their form.
+// Answers the states and replays of compare/ on standard input, a line for each: docs/COMPARISON.md has their form.
 use libc::STDIN_FILENO;
+use lines::case;
 use lines::say;
 
 mod answer;
+mod replays;
 mod show;
 mod state;
 
@@ -14,9 +16,16 @@ const BLOCK: usize = 4096;
 // More than the longest answer.
 const ROOM: usize = 8192;
 
+fn put_answer(room: &mut [u8], line: &[u8]) -> usize {
+    match case::kind(line) {
+        23 => replays::answer(room, line),
+        _ => answer::answer(room, line),
+    }
+}
+
 fn write_answer(line: &[u8]) {
     let mut room = [0u8; 8192];
-    let end = answer::answer(&mut room, line);
+    let end = put_answer(&mut room, line);
     if end <= ROOM {
         say::text(&room[..end]);
     }

@@ -1,6 +1,7 @@
-// A state in a room: its seventeen fields in order.
+// A state in a room, its seventeen fields in order, and a result.
 use crafty::Buffs;
 use crafty::Combo;
+use crafty::CraftResult;
 use crafty::CraftState;
 use crafty::Last;
 use crafty::Perfection;
@@ -77,4 +78,19 @@ pub fn put_state(room: &mut [u8], at: usize, s: CraftState) -> usize {
     let timers = put_buffs(room, ready, buffs);
     let last = s.action;
     put_last(room, timers, last)
+}
+
+fn put_finished(room: &mut [u8], at: usize, score: f32) -> usize {
+    let word = page::bytes(room, at, b"finished ");
+    page::float(room, word, score)
+}
+
+pub fn put_result(room: &mut [u8], at: usize, result: CraftResult) -> usize {
+    match result {
+        CraftResult::Finished(score) => put_finished(room, at, score),
+        CraftResult::DurabilityFailure => page::bytes(room, at, b"durability"),
+        CraftResult::MaxStepsFailure => page::bytes(room, at, b"steps"),
+        CraftResult::InvalidActionFailure => page::bytes(room, at, b"invalid"),
+        CraftResult::Continuing => page::bytes(room, at, b"continuing"),
+    }
 }

@@ -8,7 +8,7 @@ use crafty::Last;
 use crafty::Perfection;
 use lines::case;
 
-fn flag(line: &[u8], i: usize) -> bool
+pub fn flag(line: &[u8], i: usize) -> bool
     requires { ⌜ i < 40 ⌝ }
 {
     case::number(line, i) == 1

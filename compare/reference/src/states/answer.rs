@@ -4,9 +4,10 @@ use super::fields::words;
 use super::limits::{checked_context, checked_state};
 use super::line::Numbers;
 use super::mode::Mode;
+use super::result::{self, hex};
 use crate::actions::known;
 use crate::refusal::{line, Refusal};
-use crafty::{CraftResult, CraftState};
+use crafty::CraftState;
 
 /// One more than there are actions, so that an unknown one is asked for too.
 const STEPS: u32 = 32;
@@ -22,7 +23,7 @@ pub fn answer(numbers: &Numbers) -> String {
 
     let mut parts = vec![line(context.map(|context| words(&CraftState::new(context))))];
     parts.extend(in_modes.iter().map(|(_, state)| line(borrowed(state).map(moves))));
-    parts.extend(in_modes.iter().map(|(_, state)| line(borrowed(state).map(result))));
+    parts.extend(in_modes.iter().map(|(_, state)| line(borrowed(state).map(judged))));
     parts.push(line(state.map(score)));
     for (mode, state) in &in_modes {
         parts.extend((0..STEPS).map(|number| step(*mode, borrowed(state), number)));
@@ -38,23 +39,13 @@ fn moves(state: &CraftState) -> u32 {
     state.available_moves.bits()
 }
 
-fn result(state: &CraftState) -> String {
-    match state.check_result() {
-        Some(CraftResult::Finished(score)) => format!("finished {}", hex(score)),
-        Some(CraftResult::DurabilityFailure) => "durability".to_string(),
-        Some(CraftResult::MaxStepsFailure) => "steps".to_string(),
-        Some(CraftResult::InvalidActionFailure) => "invalid".to_string(),
-        None => "continuing".to_string(),
-    }
+fn judged(state: &CraftState) -> String {
+    result::words(&state.check_result())
 }
 
 /// Of any state: the Rust chooses between its two scores where a craft is finished.
 fn score(state: &CraftState) -> String {
     hex(if state.context.quality_target > 0 { state.score() } else { state.score_no_quality() })
-}
-
-fn hex(float: f32) -> String {
-    format!("{:08X}", float.to_bits())
 }
 
 /// A move that is not legal is a dash, so that lines stay short.

@@ -19,10 +19,14 @@ pub const PERFECTION: usize = 22;
 pub const INNER_QUIET: usize = 23;
 pub const LAST: usize = 31;
 
+/// The numbers of a context, which come first in a line.
+pub type ContextNumbers = [u32; STEP];
+
 /// The number that says that no action came before.
 pub const NO_ACTION: u32 = 256;
 
-pub fn context(numbers: &Numbers) -> CraftContext {
+/// From the first numbers of a line.
+pub fn context(numbers: &[u32]) -> CraftContext {
     CraftContext {
         player_job_level: numbers[0],
         recipe_job_level: numbers[1],
@@ -98,7 +102,7 @@ pub fn numbers(state: &CraftState) -> Numbers {
     numbers
 }
 
-fn context_numbers(context: &CraftContext) -> [u32; STEP] {
+pub fn context_numbers(context: &CraftContext) -> ContextNumbers {
     [
         context.player_job_level,
         context.recipe_job_level,

@@ -1,10 +1,10 @@
 //! The fixed list of states: both sides of every limit, the bench crafts, targets of 0, and some random ones.
 
-use super::fields::{numbers, set, COMBO, LAST, NO_ACTION};
+use super::bench::{bench, crafts};
+use super::fields::{numbers, COMBO, LAST, NO_ACTION, STEP};
 use super::generate;
 use super::line::{Numbers, NUMBERS};
 use super::mode::Mode;
-use crate::formulas::plain_context;
 use crafty::Action::{self, *};
 use crafty::{Buffs, CraftContext, CraftState};
 
@@ -14,8 +14,8 @@ const AMOUNTS: &[u32] = &[0, 1, 1_000_000, 1_000_001, u32::MAX];
 const FACTORS: &[u32] = &[0, 1, 200_070, 200_071, u32::MAX];
 const FLAGS: &[u32] = &[0, 1];
 
-/// The values that each number is given in turn; a negative durability is given as its byte.
-const VALUES: [&[u32]; NUMBERS - 1] = [
+/// The values that each number of a context is given in turn; a negative durability is given as its byte.
+pub const CONTEXT_VALUES: [&[u32]; STEP] = [
     &[0, 10, 11, 49, 50, 51, u32::MAX],
     &[0, 49, 50, 51, u32::MAX],
     FACTORS,
@@ -31,6 +31,10 @@ const VALUES: [&[u32]; NUMBERS - 1] = [
     FLAGS,
     FLAGS,
     FLAGS,
+];
+
+/// Those of the numbers of a state.
+const STATE_VALUES: [&[u32]; NUMBERS - 1 - STEP] = [
     &[0, 1, 2, 19, 20, 255],
     &[0, 900, 999, 1_000, 16_777_216, 16_777_217, u32::MAX],
     &[0, 199, 200, 333, 334, 999, 1_000, 16_777_216, 16_777_217, u32::MAX],
@@ -51,14 +55,9 @@ const VALUES: [&[u32]; NUMBERS - 1] = [
 ];
 
 pub fn states() -> Vec<Numbers> {
-    let lists = [limits(), combos(), crafts(), zeros(), both_outside()];
+    let lists = [limits(), combos(), bench_ways(), zeros(), both_outside()];
     let random = generate::states(SEED, 0, RANDOM);
     lists.into_iter().flatten().chain(random).collect()
-}
-
-/// The context of the bench crafts.
-fn bench() -> CraftContext {
-    CraftContext { action_pool: set((1 << 31) - 1), ..plain_context() }
 }
 
 /// In the middle of a craft, with every buff up.
@@ -97,7 +96,7 @@ fn limits() -> Vec<Numbers> {
 
 fn varied(middle: &Numbers) -> Vec<Numbers> {
     let mut states = Vec::new();
-    for (place, values) in VALUES.iter().enumerate() {
+    for (place, values) in CONTEXT_VALUES.iter().chain(&STATE_VALUES).enumerate() {
         states.extend(values.iter().map(|value| with(middle, &[(place, *value)])));
     }
     states
@@ -124,33 +123,8 @@ fn combos() -> Vec<Numbers> {
 }
 
 /// The bench crafts, with every state on their way.
-fn crafts() -> Vec<Numbers> {
-    let with_cp = |cp_max| CraftContext { cp_max, ..bench() };
-    let with_durability = |durability_max| CraftContext { durability_max, ..bench() };
-    let expert = |cp_max| CraftContext { is_expert: true, cp_max, ..bench() };
-    let quick = CraftContext { progress_target: 300, durability_max: 20, ..bench() };
-    let novice = CraftContext { player_job_level: 10, ..bench() };
-    let short = CraftContext { step_max: 1, ..bench() };
-    let crafts: [(CraftContext, Mode, &[Action]); 17] = [
-        (bench(), Mode::Plain, &[BasicTouch, StandardTouch, AdvancedTouch]),
-        (with_cp(49), Mode::Plain, &[BasicTouch, StandardTouch]),
-        (with_cp(50), Mode::Plain, &[BasicTouch, StandardTouch]),
-        (bench(), Mode::Plain, &[QuickInnovation, Reflect]),
-        (expert(200), Mode::Plain, &[BasicTouch, ByregotsBlessing]),
-        (expert(200), Mode::Strict, &[BasicTouch, ByregotsBlessing]),
-        (bench(), Mode::Plain, &[BasicTouch, Manipulation, QuickInnovation]),
-        (with_durability(1), Mode::Plain, &[PreparatoryTouch]),
-        (with_durability(19), Mode::Plain, &[Groundwork]),
-        (with_durability(20), Mode::Plain, &[Groundwork]),
-        (quick, Mode::Plain, &[Groundwork]),
-        (with_cp(0), Mode::Plain, &[]),
-        (expert(25), Mode::Strict, &[Observe]),
-        (with_cp(250), Mode::Strict, &[TrainedEye]),
-        (novice, Mode::Plain, &[BasicTouch]),
-        (short, Mode::Plain, &[]),
-        (bench(), Mode::Plain, &[Observe, AdvancedTouch, BasicTouch, RefinedTouch]),
-    ];
-    crafts.iter().flat_map(|(context, mode, actions)| way(context, *mode, actions)).collect()
+fn bench_ways() -> Vec<Numbers> {
+    crafts().iter().flat_map(|(context, mode, actions)| way(context, *mode, actions)).collect()
 }
 
 /// The states of a craft from its start as far as the actions are legal.

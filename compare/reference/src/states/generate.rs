@@ -2,14 +2,14 @@
 
 use super::fields::numbers;
 use super::line::Numbers;
-use super::outside::push_outside;
+use super::outside::{push_outside, values};
 use super::random_context;
 use super::random_state;
 use crate::random::Random;
 
-/// States by their number in a run, so that a run may be cut into batches anywhere.
+/// States by their number in a run.
 pub fn states(seed: u64, first: u64, count: u64) -> impl Iterator<Item = Numbers> {
-    (first..first + count).map(move |number| state(&mut Random::new((seed << 32) + number)))
+    (first..first + count).map(move |number| state(&mut Random::numbered(seed, number)))
 }
 
 fn state(random: &mut Random) -> Numbers {
@@ -21,7 +21,8 @@ fn state(random: &mut Random) -> Numbers {
     };
     let mut numbers = numbers(&state);
     if random.one_in(64) {
-        push_outside(random, &mut numbers);
+        let outside = values(&numbers);
+        push_outside(random, &mut numbers, &outside);
     }
     numbers
 }

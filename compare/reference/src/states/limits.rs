@@ -10,7 +10,7 @@ pub const STATE_AMOUNT_MOST: u32 = 16_777_216;
 pub const DURABILITY_LEAST: i8 = -19;
 pub const BUFFS_MOST: [u8; 8] = [10, 4, 8, 8, 3, 4, 4, 5];
 
-pub fn checked_context(numbers: &Numbers) -> Result<CraftContext, Refusal> {
+pub fn checked_context(numbers: &[u32]) -> Result<CraftContext, Refusal> {
     let context = context(numbers);
     if !contexts::is_inside(&context) {
         return Err(Refusal::Outside);

@@ -1,4 +1,4 @@
-//! The line of a state; its layout stands in docs/COMPARISON.md.
+//! The line of a state, and what it shares with that of a replay; their layouts stand in docs/COMPARISON.md.
 
 use crate::case::digits;
 
@@ -9,8 +9,14 @@ const KIND: &str = "22";
 pub type Numbers = [u32; NUMBERS];
 
 pub fn write(numbers: &Numbers) -> Vec<u8> {
+    line(KIND, numbers, b"")
+}
+
+/// The kind, the numbers and, after a space, the text.
+pub fn line(kind: &str, numbers: &[u32], text: &[u8]) -> Vec<u8> {
     let numbers: String = numbers.iter().map(|number| format!(" {number:010}")).collect();
-    let mut line = format!("{KIND}{numbers}").into_bytes();
+    let mut line = format!("{kind}{numbers} ").into_bytes();
+    line.extend(text);
     line.resize(WIDTH - 1, b' ');
     line.push(b'\n');
     line
@@ -18,9 +24,14 @@ pub fn write(numbers: &Numbers) -> Vec<u8> {
 
 /// None unless the line is exactly one that `write` writes.
 pub fn read(line: &[u8]) -> Option<Numbers> {
-    let mut numbers = [0; NUMBERS];
+    let numbers = first_numbers(line)?;
+    (write(&numbers) == line).then_some(numbers)
+}
+
+pub fn first_numbers<const COUNT: usize>(line: &[u8]) -> Option<[u32; COUNT]> {
+    let mut numbers = [0; COUNT];
     for (place, number) in numbers.iter_mut().enumerate() {
         *number = digits(line.get(3 + 11 * place..13 + 11 * place)?)?;
     }
-    (write(&numbers) == line).then_some(numbers)
+    Some(numbers)
 }

@@ -1,21 +1,24 @@
 //! Craft states, kind 22: their line, the Rust's answers, fixed and random states, and what a run met.
 
 mod answer;
+pub mod bench;
 mod count;
-mod fields;
-mod fixed;
+pub mod fields;
+pub mod fixed;
 mod generate;
-mod limits;
-mod line;
-mod mode;
-mod outside;
+pub mod limits;
+pub mod line;
+pub mod mode;
+pub mod outside;
 mod own_rules;
-mod random_context;
-mod random_state;
+pub mod random_context;
+pub mod random_state;
+pub mod result;
 mod rules;
+pub mod tally;
 
 pub use answer::answer;
-pub use count::Counts;
+pub use count::counts;
 pub use fixed::states as fixed;
 pub use generate::states as random;
 pub use line::{read, write, Numbers, WIDTH};

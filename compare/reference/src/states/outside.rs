@@ -20,18 +20,24 @@ const DURABILITIES_MAX: [u32; 4] = [0, 98, 128, 255];
 /// -20 as a byte.
 const TOO_WORN: u32 = 236;
 
-pub fn push_outside(random: &mut Random, numbers: &mut Numbers) {
-    let outside = values(numbers);
-    let (place, value) = outside[random.place(outside.len())];
+/// Gives one number of a line one of these values.
+pub fn push_outside(random: &mut Random, numbers: &mut [u32], outside: &[(usize, u32)]) {
+    let (place, value) = random.any(outside);
     numbers[place] = value;
 }
 
-/// The fields with a value outside for each.
-fn values(numbers: &Numbers) -> Vec<(usize, u32)> {
+/// The fields of a context with a value outside for each.
+pub fn context_values(numbers: &[u32]) -> Vec<(usize, u32)> {
     let mut values = CONTEXT.to_vec();
     values.extend(DURABILITIES_MAX.map(|value| (DURABILITY_MAX, value)));
+    values.push((POOL, numbers[POOL] | 1 << 31));
+    values
+}
+
+/// Those of a context and of its state.
+pub fn values(numbers: &Numbers) -> Vec<(usize, u32)> {
+    let mut values = context_values(numbers);
     values.extend([
-        (POOL, numbers[POOL] | 1 << 31),
         (STEP, 0),
         (PROGRESS, STATE_AMOUNT_MOST + 1),
         (QUALITY, STATE_AMOUNT_MOST + 1),

@@ -13,7 +13,7 @@ const LONGEST_WAY: u32 = 30;
 
 /// A state that legal moves lead to.
 pub fn on_the_way<'a>(random: &mut Random, context: &'a CraftContext) -> CraftState<'a> {
-    let mode = Mode::BOTH[random.place(2)];
+    let mode = random.any(&Mode::BOTH);
     let mut state = mode.start(context);
     for _ in 0..random.between(0, LONGEST_WAY) {
         let Some(action) = next_move(random, &state) else { break };
@@ -23,19 +23,19 @@ pub fn on_the_way<'a>(random: &mut Random, context: &'a CraftContext) -> CraftSt
 }
 
 /// Prefers an opening and the second half of a combo, and puts off a synthesis, so that crafts go on.
-fn next_move(random: &mut Random, state: &CraftState) -> Option<Action> {
+pub fn next_move(random: &mut Random, state: &CraftState) -> Option<Action> {
     let moves = state.available_moves.to_vec();
     let preferred: Vec<Action> =
         moves.iter().copied().filter(|action| is_preferred(state, *action)).collect();
     if !preferred.is_empty() && random.one_in(2) {
-        return Some(any(random, &preferred));
+        return Some(random.any(&preferred));
     }
     let put_off = |action: &Action| action.attributes().progress_efficiency.is_some();
     let others: Vec<Action> = moves.iter().copied().filter(|action| !put_off(action)).collect();
     if !others.is_empty() && !random.one_in(4) {
-        return Some(any(random, &others));
+        return Some(random.any(&others));
     }
-    (!moves.is_empty()).then(|| any(random, &moves))
+    (!moves.is_empty()).then(|| random.any(&moves))
 }
 
 fn is_preferred(state: &CraftState, action: Action) -> bool {
@@ -46,10 +46,6 @@ fn is_preferred(state: &CraftState, action: Action) -> bool {
         AdvancedTouch => state.previous_combo_action.is_some(),
         _ => false,
     }
-}
-
-fn any<T: Copy>(random: &mut Random, values: &[T]) -> T {
-    values[random.place(values.len())]
 }
 
 /// Each field random inside its limits, often at an edge.
@@ -63,7 +59,7 @@ pub fn made_up<'a>(random: &mut Random, context: &'a CraftContext) -> CraftState
         cp: cp(random, context.cp_max),
         previous_combo_action,
         quick_innovation_available: random.one_in(2),
-        trained_perfection_active: any(random, &PERFECTIONS),
+        trained_perfection_active: random.any(&PERFECTIONS),
         buffs: buffs(&BUFFS_MOST.map(|most| buff(random, most))),
         action,
         ..CraftState::_new(context)
@@ -71,11 +67,11 @@ pub fn made_up<'a>(random: &mut Random, context: &'a CraftContext) -> CraftState
 }
 
 fn combo_and_last(random: &mut Random) -> (Option<Action>, Option<Action>) {
-    let combo = any(random, &COMBOS);
+    let combo = random.any(&COMBOS);
     match combo {
         Some(_) => (combo, combo),
         None if random.one_in(4) => (None, None),
-        None => (None, Some(any(random, Action::ACTIONS))),
+        None => (None, Some(random.any(Action::ACTIONS))),
     }
 }
 
@@ -108,8 +104,8 @@ fn progress(random: &mut Random, context: &CraftContext) -> u32 {
 
 /// What some action adds, plain or under one or both of its buffs.
 fn gain(random: &mut Random, factor: u32) -> u32 {
-    let efficiency = any(random, Action::ACTIONS).attributes().progress_efficiency.unwrap_or(100);
-    let multiplier = any(random, &[100, 150, 200, 250]);
+    let efficiency = random.any(Action::ACTIONS).attributes().progress_efficiency.unwrap_or(100);
+    let multiplier = random.any(&[100, 150, 200, 250]);
     (u64::from(factor) * u64::from(efficiency) * multiplier / 10_000) as u32
 }
 
@@ -132,8 +128,8 @@ fn durability(random: &mut Random, most: i8) -> i8 {
     let value = match random.below(16) {
         0 => i32::from(DURABILITY_LEAST) + random.below(20) as i32,
         1..=2 => most,
-        3..=6 => any(random, &[1, 5, 10, 20]) + random.below(3) as i32 - 1,
-        7..=9 => most - any(random, &[25, 45]) + random.below(3) as i32 - 1,
+        3..=6 => random.any(&[1, 5, 10, 20]) + random.below(3) as i32 - 1,
+        7..=9 => most - random.any(&[25, 45]) + random.below(3) as i32 - 1,
         _ => random.between(1, most as u32) as i32,
     };
     value.clamp(i32::from(DURABILITY_LEAST), most) as i8
@@ -144,7 +140,7 @@ fn cp(random: &mut Random, most: u32) -> u32 {
     match random.below(16) {
         0..=3 => most,
         4..=5 => {
-            let price = any(random, Action::ACTIONS).attributes().cp_cost.unwrap_or(0);
+            let price = random.any(Action::ACTIONS).attributes().cp_cost.unwrap_or(0);
             near(random, price, most)
         }
         6 => near(random, 25, most),

@@ -14,7 +14,7 @@ write-answer-spec =
     (λ c. search needs)
     (λ c κs. tt)
     (λ c. search needs)
-    (λ c. sym (length-take-le _ _ (omega (arith, c .before .before .before .answer .kept))))
+    (λ c. sym (length-take-le _ _ (omega (arith, c .before .before .before .put-answer .kept))))
     (λ c κs. tt)
     (λ c. tt)
     (λ c. tt))

@@ -1,11 +1,11 @@
--- `cases::of_sets::unmark` is safe and ends.
+-- `lines::case::unmark` is safe and ends.
 -- Assumes nothing.
 use mathlib.Core.Path.{_≡_, refl}
 use Prim.Native.Nat.{_≤_, _-_}
 use native.Mathlib.Omega.{arith}
 use lib.ListN.{length, length-set}
-use Rattle.cases.proofs.of_sets.unmark.Statement.{statement}
-use Rattle.cases.proofs.of_sets.unmark.Tie as tie
+use Rattle.lines.proofs.case.unmark.Statement.{statement}
+use Rattle.lines.proofs.case.unmark.Tie as tie
 
 abbrev Inv-loop : tie.InvT-loop
 Inv-loop text list₀ k₀ list k = (k ≤ length text) × (length list ≡ length list₀)

@@ -1,0 +1,15 @@
+//! Replays of lists, kind 23: their line, the Rust's answers, fixed and random replays, and what a run met.
+
+mod answer;
+mod count;
+mod fixed;
+mod generate;
+mod line;
+mod random_list;
+mod report;
+
+pub use answer::answer;
+pub use count::counts;
+pub use fixed::replays as fixed;
+pub use generate::replays as random;
+pub use line::{read, write, Replay};

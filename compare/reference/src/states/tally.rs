@@ -1,0 +1,103 @@
+//! Counts of what a run met: of any craft the actions executed, results and combo prices, and beyond them
+//! the rules that decided in states and the lengths of replays.
+
+use super::mode::Mode;
+use super::result::{self, RESULTS};
+use super::rules::Decision;
+use crate::refusal::Refusal;
+use crafty::{Action, CraftResult, CraftState};
+use std::collections::HashMap;
+use std::fmt;
+
+const COMBO_PRICE: u32 = 18;
+/// The pairs of a combo and an action that cost less together.
+const DISCOUNTS: [(Action, Action); 3] = [
+    (Action::BasicTouch, Action::StandardTouch),
+    (Action::StandardTouch, Action::AdvancedTouch),
+    (Action::Observe, Action::AdvancedTouch),
+];
+
+#[derive(Clone, Copy, PartialEq, Eq, Hash)]
+pub enum Event {
+    Refused(u8),
+    Result(Mode, &'static str),
+    Executed(Mode, usize),
+    Discounted(Mode, usize),
+    Decided(Mode, Decision),
+    /// Replay met an action outside the moves.
+    Illegal(Mode),
+    /// The least and the greatest number of actions executed.
+    Length(Mode, usize, usize),
+}
+
+impl Event {
+    pub fn refused(refusal: Refusal) -> Event {
+        Event::Refused(refusal.number())
+    }
+}
+
+impl fmt::Display for Event {
+    fn fmt(&self, out: &mut fmt::Formatter) -> fmt::Result {
+        match self {
+            Event::Refused(number) => write!(out, "refused {number}"),
+            Event::Result(mode, result) => write!(out, "{mode} result {result}"),
+            Event::Executed(mode, action) => {
+                write!(out, "{mode} executed {}", Action::ACTIONS[*action].name())
+            }
+            Event::Discounted(mode, pair) => {
+                let (combo, action) = DISCOUNTS[*pair];
+                write!(out, "{mode} combo price of {} on {}", action.name(), combo.name())
+            }
+            Event::Decided(mode, decision) => write!(out, "{mode} rule {decision}"),
+            Event::Illegal(mode) => write!(out, "{mode} stopped by an illegal action"),
+            Event::Length(mode, least, most) => write!(out, "{mode} length {least} to {most}"),
+        }
+    }
+}
+
+/// Every result, every action executed and every combo price charged.
+pub fn craft_events(mode: Mode) -> Vec<Event> {
+    let mut events = RESULTS.map(|result| Event::Result(mode, result)).to_vec();
+    events.extend((0..Action::ACTIONS.len()).map(|action| Event::Executed(mode, action)));
+    events.extend((0..DISCOUNTS.len()).map(|pair| Event::Discounted(mode, pair)));
+    events
+}
+
+/// The events in the order of the report, and how often each was met.
+pub struct Tally {
+    events: Vec<Event>,
+    counts: HashMap<Event, u64>,
+}
+
+impl Tally {
+    pub fn new(events: Vec<Event>) -> Tally {
+        let counts = events.iter().map(|event| (*event, 0)).collect();
+        Tally { events, counts }
+    }
+
+    /// An event that was thought impossible has no count and stops the run.
+    pub fn add(&mut self, event: Event) {
+        *self.counts.get_mut(&event).unwrap_or_else(|| panic!("unforeseen: {event}")) += 1;
+    }
+
+    pub fn add_result(&mut self, mode: Mode, result: &Option<CraftResult>) {
+        self.add(Event::Result(mode, result::name(result)));
+    }
+
+    pub fn add_execution(&mut self, mode: Mode, before: &CraftState, after: &CraftState) {
+        let action = after.action.expect("an executed action");
+        self.add(Event::Executed(mode, action as usize));
+        let pair = before.previous_combo_action.map(|combo| (combo, action));
+        let Some(pair) = DISCOUNTS.iter().position(|discount| Some(*discount) == pair) else {
+            return;
+        };
+        assert_eq!(before.cp - after.cp, COMBO_PRICE, "{} in {before:?}", action.name());
+        self.add(Event::Discounted(mode, pair));
+    }
+}
+
+impl fmt::Display for Tally {
+    fn fmt(&self, out: &mut fmt::Formatter) -> fmt::Result {
+        self.events.iter().try_for_each(|event| writeln!(out, "{} {event}", self.counts[event]))
+    }
+}
