@@ -1,4 +1,5 @@
 // Kinds 18 to 20: the inner functions of one action, inside the limits that compare/ has too.
+use crafty::Buffs;
 use crafty::CraftContext;
 use lines::case;
 use lines::say;
@@ -8,8 +9,6 @@ const LAST_ACTION: u32 = 30;
 const PROGRESS: u32 = 500;
 
 const QUALITY: u32 = 300;
-
-const QUIET: u32 = 10;
 
 const TIMER: u32 = 8;
 
@@ -74,7 +73,7 @@ fn quality_increase(line: &[u8]) {
         outside();
         return;
     }
-    if inner_quiet > QUIET {
+    if inner_quiet > Buffs::INNER_QUIET_MOST as u32 {
         outside();
         return;
     }

@@ -5,7 +5,7 @@ use mathlib.Core.Bool.{Bool, true, false}
 use mathlib.Core.List.{List, [], _∷_, map}
 use Prim.Native.Nat.{ℕ}
 use lib.IntN.{ℤ, pos, negsuc}
-use lib.Ieee.{Float, binary32, toBits, ofBits, ofInt, add, sub, mul, div, lt}
+use lib.Ieee.{Float, binary32, toBits, ofBits, ofInt, sub, mul, div, lt}
 use Rattle.laws.specs.Bits.{has, collect}
 use Rattle.laws.specs.Lists.{elem}
 use Rattle.action.specs.Actions.{BasicSynthesis, BasicTouch, Observe, Veneration, StandardTouch, Innovation, BasicSynthesisTraited, ByregotsBlessing, MuscleMemory, CarefulSynthesis, Manipulation, PrudentTouch, AdvancedTouch, Reflect, PreparatoryTouch, Groundwork, CarefulSynthesisTraited, GroundworkTraited, PrudentSynthesis, QuickInnovation, TrainedPerfection}
@@ -77,7 +77,7 @@ pub record Left : Type 0 where
   pub quality : ℕ
   pub durability : ℤ
   pub cp : ℕ
-  -- the bits of what the points add to a score
+  -- the bits of what the points add to a score (P9)
   pub part : ℕ
   pub step : ℕ
   pub iq : ℕ
@@ -124,7 +124,11 @@ leftOf c s =
 abbrev seenOf : CraftContext → Replay → Seen
 seenOf c r = record { ended = endedOf r; left = leftOf c (r .state) }
 
--- ---- the table, in document 01's words; numbers that it does not name are those of the Rust
+-- the set of these actions
+abbrev only : List ℕ → ℕ
+only list = setOf (elem list)
+
+-- ---- the table: document 01's list, line by line; the numbers that it does not name are those of the Rust
 
 pub record Row : Type 0 where
   pub context : CraftContext
@@ -187,17 +191,30 @@ table =
     (record { progress = 0; quality = 0; durability = pos 40; cp = 0; part = 0x3d4c_cccd; step = 1; iq = 0; innovation = 0; manipulation = 0 }) ∷
     -- P10 expert, cp 25, strict: Observe legal, then no move.
     row (cpMax 25 (expert bench)) strict []
-    (record { verdict = continuing; score = []; executed = 0; moves = setOf (elem (BasicSynthesis ∷ BasicTouch ∷ Observe ∷ Veneration ∷ Innovation ∷ BasicSynthesisTraited ∷ MuscleMemory ∷ CarefulSynthesis ∷ PrudentTouch ∷ Reflect ∷ Groundwork ∷ CarefulSynthesisTraited ∷ GroundworkTraited ∷ PrudentSynthesis ∷ TrainedPerfection ∷ [])) })
+    (record {
+      verdict = continuing;
+      score = [];
+      executed = 0;
+      moves = only
+          (BasicSynthesis ∷ BasicTouch ∷ Observe ∷ Veneration ∷ Innovation ∷ BasicSynthesisTraited ∷ MuscleMemory ∷ CarefulSynthesis ∷ PrudentTouch
+          ∷ Reflect ∷ Groundwork ∷ CarefulSynthesisTraited ∷ GroundworkTraited ∷ PrudentSynthesis ∷ TrainedPerfection ∷ []);
+    })
     (record { progress = 0; quality = 0; durability = pos 40; cp = 25; part = 0x3d4c_cccd; step = 1; iq = 0; innovation = 0; manipulation = 0 }) ∷
     row (cpMax 25 (expert bench)) strict (Observe ∷ [])
     (record { verdict = invalid; score = []; executed = 1; moves = 0 })
     (record { progress = 0; quality = 0; durability = pos 40; cp = 18; part = 0x3d13_74bd; step = 2; iq = 0; innovation = 0; manipulation = 0 }) ∷
     []
 
+abbrev workedOf : Row → Seen
+workedOf r = seenOf (r .context) (replayOf (r .context) (r .mode) (r .list))
+
+abbrev saidOf : Row → Seen
+saidOf r = r .seen
+
 -- THE theorem: what is seen of each replay is what its row says
-pub bench-crafts : map (λ (r : Row). seenOf (r .context) (replayOf (r .context) (r .mode) (r .list))) table ≡ map (λ (r : Row). r .seen) table
+pub bench-crafts : map workedOf table ≡ map saidOf table
 unfolding table elem
     replayOf replayFrom stopOf slipOf startOf movesOf allowedOf strictlyOf ownRule strictRule has collect
     executedOf begunOf progressedOf improvedOf wornOf refreshedOf paidOf combinedOf timedOf affectedOf tickedOf effectOf actionOf
-    judgedBy scoreOf weighedOf toBits ofBits ofInt add sub mul div lt
+    judgedBy scoreOf weighedOf toBits ofBits ofInt sub mul div lt
 bench-crafts = refl
