@@ -5,6 +5,7 @@ use Prim.Native.Nat.{ℕ, _+_, _*_, _≤_}
 use native.Mathlib.Nat.{mul-le-mul}
 use native.Mathlib.Omega.{arith}
 use lib.Dec.{eqb, ltb}
+use Rattle.laws.specs.Tests.{cond-le}
 use Rattle.action.specs.Actions.{ByregotsBlessing, TrainedEye}
 use Rattle.action.specs.Limits.{factorMost, progressMost, qualityMost, quietMost, gainMost}
 use Rattle.action.specs.Gain.{multiplierOf, progressGainOf, efficiencyOf, qualityGainOf, Touchable}
@@ -37,14 +38,10 @@ multiplier-at-most half whole = go (ltb 0 half) (ltb 0 whole)
 pub progress-gain-at-most : {base efficiency : ℕ} (veneration muscleMemory : ℕ) → base ≤ factorMost → efficiency ≤ progressMost → progressGainOf base efficiency veneration muscleMemory ≤ gainMost
 progress-gain-at-most veneration muscleMemory b e = omega (arith, progress-product b e (multiplier-at-most veneration muscleMemory))
 
-either-le : (t : Bool) {x y most : ℕ} → x ≤ most → y ≤ most → cond t x y ≤ most
-either-le true p q = p
-either-le false p q = q
-
 own-at-most : {efficiency quiet : ℕ} (n : ℕ) → efficiency ≤ qualityMost → quiet ≤ quietMost → efficiencyOf n efficiency quiet ≤ qualityMost
-own-at-most n e q = either-le (eqb n ByregotsBlessing) (omega arith) e
+own-at-most n e q = cond-le (eqb n ByregotsBlessing) (omega arith) e
 
 pub quality-gain-at-most : {missing base efficiency quiet : ℕ} (n innovation greatStrides : ℕ) → Touchable missing base efficiency quiet → qualityGainOf n missing base efficiency quiet innovation greatStrides ≤ gainMost
 quality-gain-at-most {missing} {base} {efficiency} {quiet} n innovation greatStrides t =
     let four = touch-four (t .factor) (own-at-most n (t .row) (t .quiet)) (t .quiet) (multiplier-at-most innovation greatStrides) in
-    either-le (eqb n TrainedEye) (omega (arith, t .target)) (omega (arith, four))
+    cond-le (eqb n TrainedEye) (omega (arith, t .target)) (omega (arith, four))

@@ -3,7 +3,7 @@
 use mathlib.Core.Path.{_≡_, refl, sym, ap}
 use mathlib.Core.Bool.{Bool, true, false, cond, _&&_, _||_}
 use mathlib.Core.Logic.{_⊎_, inl, inr}
-use Prim.Native.Nat.{ℕ}
+use Prim.Native.Nat.{ℕ, _≤_}
 use native.Mathlib.Omega.{arith}
 use lib.Dec.{T}
 
@@ -62,3 +62,8 @@ either false = inr refl
 pub or-assoc : (a b c : Bool) → (a || b) || c ≡ a || (b || c)
 or-assoc true b c = refl
 or-assoc false b c = refl
+
+-- whichever of two a test picks is at most what both are
+pub cond-le : (t : Bool) {x y most : ℕ} → x ≤ most → y ≤ most → cond t x y ≤ most
+cond-le true p q = p
+cond-le false p q = q

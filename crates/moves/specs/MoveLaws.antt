@@ -23,12 +23,12 @@ use Rattle.action.specs.Price.{chargeOf}
 use Rattle.action.specs.declared.table.Amount.{Amount}
 use Rattle.action.specs.declared.table.Amount.the-variants.{Of, Nothing}
 use Rattle.action.specs.declared.table.Attributes.{Attributes}
-use Rattle.action_set.specs.Set.{Inside, keepOf}
-use Rattle.action_set.specs.SetLaws.{set-inside}
+use Rattle.action_set.specs.Set.{keepOf}
 use Rattle.craft_context.specs.declared.context.CraftContext.{CraftContext}
 use Rattle.craft_state.specs.declared.state.CraftState.{CraftState}
-use Rattle.craft_state.specs.Limits.{stepLeast}
+use Rattle.craft_state.specs.Limits.{stepLeast, stateInside}
 use Rattle.craft_state.specs.Inside.{Given}
+use Rattle.craft_state.specs.InsideLaws.{in-state}
 use Rattle.step.specs.Asked.{Where, Payable, Playable}
 use Rattle.step.specs.Step.{executeOf}
 use Rattle.step.specs.StepLaws.{execute-in, execute-pays}
@@ -46,14 +46,6 @@ module _ (c : CraftContext) (s : CraftState) (mode : Mode) where
   pub moves-on : ended c s ≡ false → movesOf c s mode ≡ keepOf (allowsOf c s mode) (c .«action_pool» .0)
   unfolding movesOf
   moves-on e = rw e
-
-  pub moves-inside : Inside (movesOf c s mode)
-  unfolding movesOf
-  moves-inside = by (ended c s)
-    where
-      by : (t : Bool) → Inside (cond t 0 (keepOf (allowsOf c s mode) (c .«action_pool» .0)))
-      by true = pow-pos actions
-      by false = set-inside (λ m. has (c .«action_pool» .0) m && allowsOf c s mode m)
 
   -- THE law of membership: the state has not ended, the pool has the candidate, and it passes the test
   pub has-moves : (n : ℕ) → n < actions → has (movesOf c s mode) n ≡ not (ended c s) && passesOf c s mode n
@@ -166,6 +158,10 @@ module _ (c : CraftContext) (s : CraftState) (mode : Mode) (n : ℕ) (g : Given 
 
   pub legal-keeps : Given c (executeOf c s n)
   legal-keeps = execute-in c s n (attributesOf n) (rows-bounded n h) legal-playable
+
+  -- so the next state passes the tests of refusal 2
+  pub legal-inside : stateInside c (executeOf c s n) ≡ true
+  legal-inside = in-state c (executeOf c s n) (legal-keeps .state)
 
   pub legal-pays : executeOf c s n .cp + chargeOf n (s .«previous_combo_action») (attributesOf n .«cp_cost») ≡ s .cp
   legal-pays = execute-pays c s n (attributesOf n) (rows-bounded n h) legal-playable

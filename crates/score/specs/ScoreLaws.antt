@@ -15,6 +15,7 @@ use Rattle.laws.specs.NoNan.{small-no-nan, add-minus-inf, over-zero}
 use Rattle.craft_context.specs.declared.context.CraftContext.{CraftContext}
 use Rattle.craft_context.specs.Factor.{float}
 use Rattle.craft_state.specs.declared.state.CraftState.{CraftState}
+use Rattle.craft_state.specs.Limits.{stepMost}
 use Rattle.craft_state.specs.Inside.{Room, Given}
 use Rattle.score.specs.Score.{one, progressBonus, qualityBonus, durabilityBonus, cpBonus, fewerStepsBonus, cappedOf, partOf, fewerOf, weighedOf, scoreOf}
 
@@ -110,7 +111,7 @@ bonus-minus-inf : mul binary32 fewerStepsBonus (inf true) ≡ inf true
 unfolding mul ofBits
 bonus-minus-inf = refl
 
-module _ (step : ℕ) (started : 0 < step) (byte : step ≤ 255) where
+module _ (step : ℕ) (started : 0 < step) (byte : step ≤ stepMost) where
   fewer-minus-inf : fewerOf step 0 ≡ inf true
   unfolding ofInt sub ofBits
   fewer-minus-inf = ap (sub binary32 one) (over-zero binary32 (float step) step started (of-nat-value binary32 step (le-trans byte (lit≤ tt))))
@@ -118,18 +119,18 @@ module _ (step : ℕ) (started : 0 < step) (byte : step ≤ 255) where
   last-minus-inf : (x : Float) → Small x 22 → add binary32 x (lastOf step 0) ≡ inf true
   last-minus-inf x p = rw (fewer-minus-inf, bonus-minus-inf) (add-minus-inf binary32 x 22 p)
 
-  fewer-small : (most : ℕ) → 0 < most → most ≤ 255 → Small (fewerOf step most) 256
+  fewer-small : (most : ℕ) → 0 < most → most ≤ stepMost → Small (fewerOf step most) 256
   fewer-small most some top =
-      let value : Small (float step) (255 * most) = small-more (float step) 255 (255 * most) (omega arith) (of-nat-small binary32 step 255 byte (lit≤ tt)) in
+      let value : Small (float step) (stepMost * most) = small-more (float step) stepMost (stepMost * most) (omega arith) (of-nat-small binary32 step stepMost byte (lit≤ tt)) in
       let target : HasValue (float most) false most 1 = of-nat-value binary32 most (le-trans top (lit≤ tt)) in
-      sub-small binary32 one _ 1 255 (lit≤ tt) one-small (div-small binary32 _ _ 255 most (lit≤ tt) some target value)
+      sub-small binary32 one _ 1 stepMost (lit≤ tt) one-small (div-small binary32 _ _ stepMost most (lit≤ tt) some target value)
 
-  fewer-no-nan : (most : ℕ) → most ≤ 255 → T (not (isNan (fewerOf step most)))
+  fewer-no-nan : (most : ℕ) → most ≤ stepMost → T (not (isNan (fewerOf step most)))
   unfolding isNan
   fewer-no-nan zero top = rw fewer-minus-inf tt
   fewer-no-nan (suc n) top = small-no-nan (fewerOf step (suc n)) 256 (fewer-small (suc n) (zero-lt-suc n) top)
 
-  last-no-nan : (x : Float) (most : ℕ) → Small x 22 → most ≤ 255 → T (not (isNan (add binary32 x (lastOf step most))))
+  last-no-nan : (x : Float) (most : ℕ) → Small x 22 → most ≤ stepMost → T (not (isNan (add binary32 x (lastOf step most))))
   unfolding isNan
   last-no-nan x zero p top = rw (last-minus-inf x p) tt
   last-no-nan x (suc n) p top =
@@ -153,7 +154,7 @@ weighed-last context state given P last =
     (durability-part-small _ _ (given .state .room)))
     (part-small cpBonus _ _ cp-small))
 
-module _ (context : CraftContext) (state : CraftState) (given : Given context state) (byte : state .step ≤ 255) where
+module _ (context : CraftContext) (state : CraftState) (given : Given context state) (byte : state .step ≤ stepMost) where
   -- step_max 0 gives minus infinity
   pub score-minus-inf : context .«step_max» ≡ 0 → scoreOf context state ≡ inf true
   unfolding scoreOf
@@ -164,7 +165,7 @@ module _ (context : CraftContext) (state : CraftState) (given : Given context st
       go false = weighed-last context state given (λ x. x ≡ inf true) (λ x p. rw no-steps (last-minus-inf (state .step) (given .state .step) byte x p))
 
   -- THE theorem: no score is a NaN
-  pub score-no-nan : context .«step_max» ≤ 255 → T (not (isNan (scoreOf context state)))
+  pub score-no-nan : context .«step_max» ≤ stepMost → T (not (isNan (scoreOf context state)))
   unfolding scoreOf
   score-no-nan top = go (eqb (context .«quality_target») 0)
     where

@@ -24,7 +24,7 @@ pub struct Replay {
     pub executed: usize,
 }
 
-// The craft has ended, or the list: the moves are worked out here and only here.
+// The craft has ended, or the list. The moves are worked out only where a replay stops, here or in `slip`.
 fn stop(context: CraftContext, mode: Mode, state: CraftState, executed: usize) -> Replay
     requires { ⌜ Given context state ⌝ }
     ensures { λ r. ⌜ (r ≡ stopOf context mode state executed) × Sound (r .result) ⌝ }

@@ -30,9 +30,14 @@ refreshedTo d manipulation most = cond (ltb 0 manipulation && ltZ (pos 0) d) (me
 
 -- ---- in a byte
 
+lowered-by : (d : ℤ) (cost : ℕ) (most : ℤ) → Room d most → cost ≤ durabilityMost → raise (d -ℤ pos cost) + cost ≡ raise d
+lowered-by d cost most r h =
+    let e : raise (d -ℤ pos cost) + (1000 + cost) ≡ raise d + 1000 = raise-sub d (pos cost) (mag-of d 255 (omega arith) (omega arith) (omega arith)) (omega arith) in
+    omega arith
+
 pub hurt-fits : (d : ℤ) (cost : ℕ) (most : ℤ) → Room d most → cost ≤ durabilityMost → SFits w8 (d -ℤ pos cost)
 hurt-fits d cost most r h =
-    let e : raise (d -ℤ pos cost) + (1000 + cost) ≡ raise d + 1000 = raise-sub d (pos cost) (mag-of d 255 (omega arith) (omega arith) (omega arith)) (omega arith) in
+    let e = lowered-by d cost most r h in
     fits8 (d -ℤ pos cost) (omega arith) (omega arith)
 
 raised-by : (d : ℤ) (by : ℕ) (most : ℤ) → Room d most → by ≤ mastersMends → raise (d +ℤ pos by) ≡ raise d + by
@@ -55,7 +60,7 @@ mended-room d by most r h = go (leZ (d +ℤ pos by) most) (le-raise (d +ℤ pos 
 -- from above 0, a cost leaves -19 at the least
 pub hurt-room : (d : ℤ) (cost : ℕ) (most : ℤ) → Room d most → raise (pos 0) < raise d → cost ≤ durabilityMost → Room (d -ℤ pos cost) most
 hurt-room d cost most r a h =
-    let e : raise (d -ℤ pos cost) + (1000 + cost) ≡ raise d + 1000 = raise-sub d (pos cost) (mag-of d 255 (omega arith) (omega arith) (omega arith)) (omega arith) in
+    let e = lowered-by d cost most r h in
     record { from = omega arith; to = omega arith; above = r .above; top = r .top }
 
 pub refreshed-room : (d : ℤ) (manipulation : ℕ) (most : ℤ) → Room d most → Room (refreshedTo d manipulation most) most

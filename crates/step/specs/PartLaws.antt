@@ -8,7 +8,7 @@ use native.Mathlib.Omega.{arith}
 use lib.Dec.{eqb, ltb}
 use lib.IntN.{ℤ, pos}
 use Rattle.laws.specs.Raise.{raise}
-use Rattle.laws.specs.Tests.{both}
+use Rattle.laws.specs.Tests.{both, cond-le}
 use Rattle.action.specs.Actions as A
 use Rattle.action.specs.Limits.{durabilityMost, qualityMost, targetMost, amountMost, quietMost}
 use Rattle.action.specs.Amount.{AtMost}
@@ -29,10 +29,6 @@ use Rattle.craft_state.specs.Inside.{Room, BuffsIn}
 use Rattle.step.specs.Durability.{mendedOf, mastersMends, mended-room, hurt-room}
 use Rattle.step.specs.Parts.{progressAfter, qualityAfter, quietAfter, quietLevel, doublesQuiet, usedUp, isActive, durabilityAfter, cpAfter, onBasicTouch, comboAfter, tickedOf, effectOf, mendAfter}
 use Rattle.step.specs.Asked.{Where, Payable, Progressing, Touching}
-
-cond-le : (t : Bool) {x y most : ℕ} → x ≤ most → y ≤ most → cond t x y ≤ most
-cond-le true p q = p
-cond-le false p q = q
 
 -- ---- progress and quality
 
