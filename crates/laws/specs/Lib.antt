@@ -1,6 +1,7 @@
 pub mod Tests
 pub mod Same
 pub mod Lists
+pub mod Front
 pub mod Arms
 pub mod Bits
 pub mod BitLaws

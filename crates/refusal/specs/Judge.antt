@@ -6,7 +6,7 @@ use mathlib.Core.List.{List, [], _∷_}
 use Prim.Native.Nat.{ℕ}
 use lib.Dec.{leb}
 use Rattle.refusal.specs.declared.Refusal.{Refusal}
-use Rattle.refusal.specs.declared.Refusal.the-variants.{NoRoom}
+use Rattle.refusal.specs.declared.Refusal.the-variants.{NoRoom, TooLong}
 use Rattle.refusal.specs.declared.Report.{Report}
 use Rattle.refusal.specs.declared.Checked.{Checked}
 use Rattle.refusal.specs.declared.Checked.the-variants.{Passed, Refused}
@@ -31,6 +31,13 @@ checksOf tests = judged Refused Passed tests
 -- refusal 6
 abbrev pub roomTest : ℕ → ℕ → Test
 roomTest room needed = record { passed = leb needed room; otherwise = NoRoom needed }
+
+-- refusal 13
+abbrev pub sizeMost : ℕ
+sizeMost = 65536
+
+abbrev pub sizeTest : ℕ → Test
+sizeTest size = record { passed = leb size sizeMost; otherwise = TooLong }
 
 -- a kind of answer: document 01's number and values for each of its cases, and its case of a refusal
 pub record Kind (A : Type 0) : Type 0 where

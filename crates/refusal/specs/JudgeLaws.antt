@@ -10,7 +10,7 @@ use Rattle.refusal.specs.declared.Refusal.{Refusal}
 use Rattle.refusal.specs.declared.Checked.{Checked}
 use Rattle.refusal.specs.declared.Checked.the-variants.{Passed, Refused}
 use Rattle.refusal.specs.Report.{reportOf, success}
-use Rattle.refusal.specs.Judge.{Test, judged, checkedOf, checksOf, roomTest, Kind, Says, Writes}
+use Rattle.refusal.specs.Judge.{Test, judged, checkedOf, checksOf, roomTest, sizeMost, sizeTest, Kind, Says, Writes}
 
 refused-passed : {x : Refusal} → Refused x ≡ Passed → ⊥
 refused-passed e = let z : _≡_ {A = ℕ} 0 1 = cc in omega arith
@@ -83,6 +83,9 @@ shown-by (t ∷ more) rest e p =
 
 pub room-shown : {room needed : ℕ} {checked : Checked} → checked ≡ checkedOf (roomTest room needed) → checked ≡ Passed → needed ≤ room
 room-shown {room} {needed} e p = leb-true needed room (shown (roomTest room needed) [] (alone (roomTest room needed) e) p .0)
+
+pub size-shown : {size : ℕ} {checked : Checked} → checked ≡ checkedOf (sizeTest size) → checked ≡ Passed → size ≤ sizeMost
+size-shown {size} e p = leb-true size sizeMost (shown (sizeTest size) [] (alone (sizeTest size) e) p .0)
 
 -- ---- the ways through an entry, as its code takes them: tests stop it, tests let it on, no test is left
 

@@ -1,7 +1,7 @@
 // The refusals of the whole engine, by document 01's numbers, and the tests that end in one.
 ghost use mathlib.Core.Path.{_≡_};
 ghost use Rattle.refusal.specs.Report.{reportOf};
-ghost use Rattle.refusal.specs.Judge.{checkedOf, roomTest};
+ghost use Rattle.refusal.specs.Judge.{checkedOf, roomTest, sizeTest};
 use Also::Nothing;
 use Also::Value;
 
@@ -58,6 +58,8 @@ impl Refusal {
     }
 }
 
+const SIZE_MOST: usize = 65536;
+
 // What one test answers.
 pub enum Checked {
     Passed,
@@ -72,4 +74,14 @@ pub fn check_room(room: usize, needed: usize) -> Checked
         return Checked::Passed;
     }
     Checked::Refused(Refusal::NoRoom(needed))
+}
+
+// Refusal 13: a program's input, or a list to write as text or to time, that is longer than they may be.
+pub fn check_size(bytes: usize) -> Checked
+    ensures { λ r. ⌜ r ≡ checkedOf (sizeTest bytes) ⌝ }
+{
+    if bytes <= SIZE_MOST {
+        return Checked::Passed;
+    }
+    Checked::Refused(Refusal::TooLong)
 }
