@@ -2,7 +2,7 @@
 -- Assumes nothing.
 use mathlib.Core.Path.{_≡_, refl}
 use mathlib.Core.List.{List, [], _∷_}
-use Prim.Native.Nat.{ℕ, zero, suc, _+_, _/_, _%_, _^_, _≤_, _<_, max}
+use Prim.Native.Nat.{ℕ, zero, suc, _+_, _/_, _%_, _^_, _-_, _≤_, _<_, max}
 use native.Mathlib.Nat.{pow-suc}
 use native.Mathlib.Omega.{arith}
 use borrow.Author.Tests.{lt-ltb}
@@ -49,6 +49,11 @@ signed-most (negsuc k) = omega (arith, decimal-most (suc k))
 pub right-length : (w : ℕ) (text : List ℕ) → length (rightOf w text) ≡ max w (length text)
 unfolding rightOf
 right-length w text = simp (length-append, length-replicate) (omega arith)
+
+-- with no width the text stands alone
+pub right-none : (text : List ℕ) → rightOf 0 text ≡ text
+unfolding rightOf
+right-none text = let none : 0 - length text ≡ 0 = omega arith in rw none
 
 pub hex-length : (n : ℕ) → length (hexOf n) ≡ 8
 unfolding hexOf
