@@ -30,12 +30,13 @@ pub line-short : (c : CraftContext) (s : CraftState) → length (lineOf c s) ≤
 unfolding lineOf
 line-short c s =
     simp length-append
-    (omega
-    (arith,
-    share-short 5 (s .progress) (c .«progress_target») (bytes " progress | ") (omega arith),
-    share-short 5 (s .quality) (c .«quality_target») (bytes " quality | ") (omega arith),
-    signed-share-short 2 (s .durability) (c .«durability_max») (bytes " durability | ") (omega arith),
-    share-short 3 (s .cp) (c .«cp_max») (bytes " cp") (omega arith)))
+    (omega (
+      arith,
+      share-short 5 (s .progress) (c .«progress_target») (bytes " progress | ") (omega arith),
+      share-short 5 (s .quality) (c .«quality_target») (bytes " quality | ") (omega arith),
+      signed-share-short 2 (s .durability) (c .«durability_max») (bytes " durability | ") (omega arith),
+      share-short 3 (s .cp) (c .«cp_max») (bytes " cp") (omega arith),
+    ))
 
 -- ---- worked: a field that is not filled, one that grows, and a negative durability
 

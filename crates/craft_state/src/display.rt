@@ -18,7 +18,14 @@ fn put_share(out: &mut [u8], at: usize, part: u32, most: u32, width: usize, unit
 }
 
 // The same of durability, which may be negative.
-fn put_signed_share(out: &mut [u8], at: usize, part: i8, most: i8, width: usize, unit: &[u8]) -> usize
+fn put_signed_share(
+    out: &mut [u8],
+    at: usize,
+    part: i8,
+    most: i8,
+    width: usize,
+    unit: &[u8],
+) -> usize
     requires { ⌜ (at + signedShareMost + length (now unit) ≤ length (now out)) × (width ≤ 10) ⌝ }
     ensures { λ r. ⌜ Put (now (out .entry)) at (signedShareOf width part most (now (unit .entry))) r (now (out .exit)) × (r ≤ at + signedShareMost + length (now (unit .entry))) ⌝ }
 {
@@ -32,8 +39,29 @@ pub fn put_line(context: CraftContext, state: CraftState, out: &mut [u8], at: us
     requires { ⌜ at + lineMost ≤ length (now out) ⌝ }
     ensures { λ r. ⌜ Put (now (out .entry)) at (lineOf context state) r (now (out .exit)) × (r ≤ at + lineMost) ⌝ }
 {
-    let quality = put_share(out, at, state.progress, context.progress_target, 5, b" progress | ");
-    let durability = put_share(out, quality, state.quality, context.quality_target, 5, b" quality | ");
-    let cp = put_signed_share(out, durability, state.durability, context.durability_max, 2, b" durability | ");
+    let quality = put_share(
+        out,
+        at,
+        state.progress,
+        context.progress_target,
+        5,
+        b" progress | ",
+    );
+    let durability = put_share(
+        out,
+        quality,
+        state.quality,
+        context.quality_target,
+        5,
+        b" quality | ",
+    );
+    let cp = put_signed_share(
+        out,
+        durability,
+        state.durability,
+        context.durability_max,
+        2,
+        b" durability | ",
+    );
     put_share(out, cp, state.cp, context.cp_max, 3, b" cp")
 }

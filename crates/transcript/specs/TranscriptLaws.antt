@@ -6,25 +6,30 @@ use mathlib.Core.List.{List, [], _∷_, _++_}
 use Prim.Native.Nat.{ℕ, zero, suc, _+_, _*_, _≤_, _<_}
 use native.Mathlib.Omega.{arith}
 use lib.Ieee.{binary32, toBits}
-use lib.ListN.{length, drop, take, getD, length-append, drop-of-length-le}
+use lib.ListN.{length, drop, take, getD, length-append, length-take, drop-of-length-le}
 use Rattle.laws.specs.Bits.{has}
 use Rattle.laws.specs.Lists.{drop-at}
 use Rattle.text.specs.Over.{over, Put}
 use Rattle.text.specs.OverLaws.{over-more}
 use Rattle.text.specs.LengthLaws.{decimal-most, hex-length}
 use Rattle.text.specs.Decimal.{decimalOf}
-use Rattle.action.specs.Known.{actions}
+use Rattle.action.specs.Known.{actions, knownFront}
 use Rattle.craft_context.specs.declared.context.CraftContext.{CraftContext}
+use Rattle.craft_context.specs.Limits.{ContextIn}
 use Rattle.craft_state.specs.declared.state.CraftState.{CraftState}
+use Rattle.craft_state.specs.Limits.{stepMost}
+use Rattle.craft_state.specs.Start.{startOf}
 use Rattle.craft_state.specs.LineLaws.{line-short}
 use Rattle.step.specs.Step.{executeOf}
 use Rattle.moves.specs.Moves.{movesOf}
 use Rattle.moves.specs.MoveLaws.{plain}
 use Rattle.score.specs.declared.result.CraftResult.{CraftResult}
 use Rattle.score.specs.declared.result.CraftResult.the-variants as R
-use Rattle.simulator.specs.Promise.{EachLegal}
-use Rattle.simulator.specs.PromiseLaws.{AllKnown}
-use Rattle.transcript.specs.Transcript.{rowOf, rowsOf, finishedOf, resultTextOf, lastOf, rowMost, resultMost, lastMost}
+use Rattle.simulator.specs.declared.replay.Replay.{Replay}
+use Rattle.simulator.specs.Replay.{replayOf}
+use Rattle.simulator.specs.Promise.{EachLegal, Promise}
+use Rattle.simulator.specs.PromiseLaws.{AllKnown, all-known, take-known, promised}
+use Rattle.transcript.specs.Transcript.{rowOf, rowsOf, finishedOf, resultTextOf, lastOf, reportedOf, transcriptOf, rowMost, resultMost, lastMost, transcriptMost}
 
 -- ---- a part of known actions that are each legal where they stand
 
@@ -90,3 +95,34 @@ result-short R.Continuing = omega arith
 pub last-short : (result : CraftResult) (executed listed : ℕ) → length (lastOf result executed listed) ≤ lastMost
 unfolding lastOf
 last-short result executed listed = simp length-append (omega (arith, result-short result, decimal-most executed, decimal-most listed))
+
+-- ---- the whole text of a list's replay
+
+module _ (c : CraftContext) (list : List ℕ) where
+  pub transcript-is : {s : CraftState} {r : Replay} → s ≡ startOf c → r ≡ replayOf c plain list
+      → rowOf c s ++ rowsOf c s (take (r .executed) list) ++ lastOf (r .result) (r .executed) (length list) ≡ transcriptOf c list
+  unfolding reportedOf transcriptOf
+  transcript-is e f = rw (e, f)
+
+  module _ (inside : ContextIn c) (top : c .«step_max» ≤ stepMost) (known : length list ≤ knownFront list) where
+    pub kept : {r : Replay} → r ≡ replayOf c plain list → Promise c plain list r
+    kept f = rw f (promised c plain inside top list (all-known list known))
+
+    pub executed-played : {r : Replay} → r ≡ replayOf c plain list → Played c (startOf c) (take (r .executed) list)
+    executed-played {r} f = record { known = take-known list (r .executed) (all-known list known); legal = kept f .executed .legal }
+
+    -- THE law of the room: at most 255 actions are executed, so 32,768 bytes are always enough
+    pub transcript-short : length (transcriptOf c list) ≤ transcriptMost
+    unfolding reportedOf transcriptOf
+    transcript-short =
+        let r = replayOf c plain list in
+        let p = kept {r = r} refl in
+        simp length-append
+        (omega (
+          arith,
+          p .few,
+          length-take (r .executed) list,
+          row-short c (startOf c),
+          rows-short c (startOf c) (take (r .executed) list),
+          last-short (r .result) (r .executed) (length list),
+        ))

@@ -18,7 +18,13 @@ pub fn put_row(context: CraftContext, state: CraftState, out: &mut [u8], at: usi
 }
 
 // A row after each action of a part whose actions are each legal where they stand.
-pub fn put_rows(context: CraftContext, start: CraftState, part: &[u8], out: &mut [u8], at: usize) -> usize
+pub fn put_rows(
+    context: CraftContext,
+    start: CraftState,
+    part: &[u8],
+    out: &mut [u8],
+    at: usize,
+) -> usize
     requires { ⌜ Given context start × Played context start (now part) × (at + rowMost * length (now part) ≤ length (now out)) ⌝ }
     ensures { λ r. ⌜ Put (now (out .entry)) at (rowsOf context start (now (part .entry))) r (now (out .exit)) × (r ≤ at + rowMost * length (now (part .entry))) ⌝ }
 {

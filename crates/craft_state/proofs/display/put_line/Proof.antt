@@ -49,14 +49,15 @@ put-share-requires-3 c κs =
     let durability = c .before .before .before .before in
     let quality = durability .before .before .before .before .before .before .before in
     let progress = quality .before .before .before .before .before in
-    omega
-    (arith,
-    progress .put-share .ensures .1,
-    progress .put-share .kept .0,
-    quality .put-share2 .ensures .1,
-    quality .put-share2 .kept .0,
-    durability .put-signed-share .ensures .1,
-    durability .put-signed-share .kept .0)
+    omega (
+      arith,
+      progress .put-share .ensures .1,
+      progress .put-share .kept .0,
+      quality .put-share2 .ensures .1,
+      quality .put-share2 .kept .0,
+      durability .put-signed-share .ensures .1,
+      durability .put-signed-share .kept .0,
+    )
 
 same-length : tie.Need-same-length
 same-length c = search needs
