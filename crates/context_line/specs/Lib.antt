@@ -1,0 +1,4 @@
+-- The definitions that the contracts cite, their laws and the theorems.
+-- Assumes nothing.
+pub mod Shape
+pub mod RunLaws

@@ -1,0 +1,61 @@
+-- A context's line of text: where it ends, its shape, its numbers, and refusal 12.
+-- Assumes nothing.
+use mathlib.Core.Path.{_≡_}
+use mathlib.Core.Bool.{Bool, true, not, _&&_}
+use mathlib.Core.List.{List, [], _∷_}
+use Prim.Native.Nat.{ℕ, zero, suc, _≤_, _<_}
+use lib.Dec.{leb, eqb}
+use lib.ListN.{length, take, drop, getD}
+use Rattle.laws.specs.Front.{front}
+use Rattle.refusal.specs.Judge.{Test}
+use Rattle.refusal.specs.declared.Refusal.the-variants.{MalformedLine}
+use Rattle.text.specs.Reading.{valueOf}
+
+-- the place of the first byte 10, or the length where there is none
+abbrev pub lineEnd : List ℕ → ℕ
+lineEnd input = front (λ b. not (eqb b 10)) input
+
+-- 0 to 9
+abbrev pub digit : ℕ → Bool
+digit b = leb 48 b && leb b 57
+
+-- how many digits a text starts with
+abbrev pub digits : List ℕ → ℕ
+digits text = front digit text
+
+-- the most digits that a number is written in
+abbrev pub digitsMost : ℕ
+digitsMost = 10
+
+abbrev pub wide : ℕ → Bool
+wide w = leb 1 w && leb w digitsMost
+
+-- digits and nothing else, few enough to be read
+pub record Run (text : List ℕ) : Type 0 where
+  pub few : length text ≤ digitsMost
+  pub each : (i : ℕ) → i < length text → digit (getD text i 0) ≡ true
+
+-- a number, and `more` others, each after one space: nothing before the first and nothing after the last
+unfoldable pub shaped : ℕ → List ℕ → Bool
+shaped zero text = wide (digits text) && leb (length text) (digits text)
+shaped (suc more) text = wide (digits text) && (eqb (getD text (digits text) 0) 32 && shaped more (drop (suc (digits text)) text))
+
+-- the numbers of such a text
+unfoldable pub valuesOf : ℕ → List ℕ → List ℕ
+valuesOf zero text = valueOf (take (digits text) text) ∷ []
+valuesOf (suc more) text = valueOf (take (digits text) text) ∷ valuesOf more (drop (suc (digits text)) text)
+
+-- a context's fields after the first
+abbrev pub others : ℕ
+others = 14
+
+-- of a line without its byte 10
+abbrev pub lineShaped : List ℕ → Bool
+lineShaped line = shaped others line
+
+abbrev pub numbersOf : List ℕ → List ℕ
+numbersOf line = valuesOf others line
+
+-- refusal 12
+abbrev pub lineTest : List ℕ → Test
+lineTest line = record { passed = lineShaped line; otherwise = MalformedLine }
