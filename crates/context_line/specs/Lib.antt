@@ -2,3 +2,4 @@
 -- Assumes nothing.
 pub mod Shape
 pub mod RunLaws
+pub mod ShapeLaws

@@ -43,12 +43,16 @@ run-front text h =
       each = λ i k. let less : i < digits text = omega arith in rw getD-take (front-each digit text i less);
     }
 
+-- digits read after a value
+abbrev pub valueAfter : ℕ → List ℕ → ℕ
+valueAfter value text = valueIn 10 (λ b. b - 48) value text
+
 -- a walk over a run, at place i: a digit more, no digit left
 module _ (text : List ℕ) {i : ℕ} (value : ℕ) where
-  pub value-on : i < length text → valueIn 10 (λ b. b - 48) value (drop i text) ≡ valueIn 10 (λ b. b - 48) (value * 10 + (getD text i 0 - 48)) (drop (i + 1) text)
+  pub value-on : i < length text → valueAfter value (drop i text) ≡ valueAfter (value * 10 + (getD text i 0 - 48)) (drop (i + 1) text)
   value-on h = rw (drop-at text i h)
 
-  pub value-end : length text ≤ i → valueIn 10 (λ b. b - 48) value (drop i text) ≡ value
+  pub value-end : length text ≤ i → valueAfter value (drop i text) ≡ value
   value-end h = rw (drop-of-length-le text h)
 
 pub value-below : (i : ℕ) {value d : ℕ} → value < 10 ^ i → d ≤ 9 → value * 10 + d < 10 ^ (i + 1)

@@ -1,15 +1,16 @@
 -- A context's line of text: where it ends, its shape, its numbers, and refusal 12.
 -- Assumes nothing.
 use mathlib.Core.Path.{_≡_}
-use mathlib.Core.Bool.{Bool, true, not, _&&_}
+use mathlib.Core.Bool.{Bool, true, false, cond, not, _&&_}
 use mathlib.Core.List.{List, [], _∷_}
 use Prim.Native.Nat.{ℕ, zero, suc, _≤_, _<_}
 use lib.Dec.{leb, eqb}
-use lib.ListN.{length, take, drop, getD}
+use lib.ListN.{length, take, drop, getD, replicate}
 use Rattle.laws.specs.Front.{front}
 use Rattle.refusal.specs.Judge.{Test}
 use Rattle.refusal.specs.declared.Refusal.the-variants.{MalformedLine}
 use Rattle.text.specs.Reading.{valueOf}
+use Rattle.context_line.specs.declared.line.Numbers.{Numbers}
 
 -- the place of the first byte 10, or the length where there is none
 abbrev pub lineEnd : List ℕ → ℕ
@@ -55,6 +56,13 @@ lineShaped line = shaped others line
 
 abbrev pub numbersOf : List ℕ → List ℕ
 numbersOf line = valuesOf others line
+
+-- what the code reads a line into: its numbers where it is shaped, and else zeros
+abbrev pub noNumbers : Numbers
+noNumbers = record { shaped = false; values = replicate (suc others) 0 }
+
+abbrev pub readOf : List ℕ → Numbers
+readOf line = cond (lineShaped line) (record { shaped = true; values = numbersOf line }) noNumbers
 
 -- refusal 12
 abbrev pub lineTest : List ℕ → Test

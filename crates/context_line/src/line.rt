@@ -1,6 +1,9 @@
 // A line of text that holds a context.
 ghost use mathlib.Core.Path.{_≡_};
-ghost use Rattle.context_line.specs.Shape.{lineEnd};
+ghost use lib.Dec.{eqb};
+ghost use lib.ListN.{getD};
+ghost use Rattle.context_line.specs.Shape.{lineEnd, noNumbers, readOf};
+use crate::runs;
 
 const LINE_FEED: u8 = 10;
 
@@ -16,4 +19,62 @@ pub fn line_end(input: &[u8]) -> usize
         i += 1;
     }
     i
+}
+
+// A context's fields.
+const FIELDS: usize = 15;
+
+const SPACE: u8 = 32;
+
+// The numbers of a line that has the shape, and zeros for one that has not.
+struct Numbers {
+    shaped: bool,
+    values: [u64; 15],
+}
+
+fn is_space(line: &[u8], at: usize) -> bool
+    ensures { λ r. ⌜ r ≡ eqb (getD (now (line .entry)) at 0) 32 ⌝ }
+{
+    if at < line.len() {
+        return line[at] == SPACE;
+    }
+    false
+}
+
+fn malformed() -> Numbers
+    ensures { λ r. ⌜ r ≡ noNumbers ⌝ }
+{
+    Numbers {
+        shaped: false,
+        values: [0; FIELDS],
+    }
+}
+
+fn read_numbers(line: &[u8]) -> Numbers
+    ensures { λ r. ⌜ r ≡ readOf (now (line .entry)) ⌝ }
+{
+    let mut values = [0u64; FIELDS];
+    let mut k: usize = 0;
+    let mut at: usize = 0;
+    loop {
+        let end = runs::run_end(line, at);
+        if !runs::is_wide(end - at) {
+            return malformed();
+        }
+        values[k] = runs::number(&line[at..end]);
+        k += 1;
+        if k == FIELDS {
+            if end < line.len() {
+                return malformed();
+            }
+            return Numbers {
+                shaped: true,
+                values: values,
+            };
+        }
+        if !is_space(line, end) {
+            return malformed();
+        }
+        at = end + 1;
+    }
 }

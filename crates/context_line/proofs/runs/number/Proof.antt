@@ -1,17 +1,17 @@
 -- `context_line::runs::number` meets its contract: the digits that are left go on from the value so far.
 -- Assumes nothing.
-use mathlib.Core.Path.{_≡_, refl, sym, ap, _∙_}
-use Prim.Native.Nat.{ℕ, _*_, _+_, _-_, _^_, _≤_, _<_}
+use mathlib.Core.Path.{_≡_, refl, sym, _∙_}
+use Prim.Native.Nat.{_-_, _^_, _≤_, _<_}
 use native.Mathlib.Nat.{pow-le-pow-right}
 use native.Mathlib.Omega.{arith}
-use lib.ListN.{length, drop, getD, drop-of-length-le}
-use Rattle.text.specs.Reading.{valueIn, valueOf}
-use Rattle.context_line.specs.RunLaws.{value-on, value-end, value-below}
+use lib.ListN.{length, drop}
+use Rattle.text.specs.Reading.{valueOf}
+use Rattle.context_line.specs.RunLaws.{valueAfter, value-on, value-end, value-below}
 use Rattle.context_line.proofs.runs.number.Statement.{statement}
 use Rattle.context_line.proofs.runs.number.Tie as tie
 
 abbrev Inv-loop : tie.InvT-loop
-Inv-loop run value₀ i₀ value i = (i ≤ length run) × (value < 10 ^ i) × (valueIn 10 (λ b. b - 48) value (drop i run) ≡ valueOf run)
+Inv-loop run value₀ i₀ value i = (i ≤ length run) × (value < 10 ^ i) × (valueAfter value (drop i run) ≡ valueOf run)
 
 abbrev μ-loop : tie.MeasureT-loop
 μ-loop run value₀ i₀ value i = length run - i
