@@ -10,7 +10,7 @@ use lib.ListN.{length, set, take, drop, getD, replicate, length-set, length-repl
 use Rattle.text.specs.Over.{over}
 use Rattle.text.specs.OverLaws.{over-is, over-step, over-none}
 use Rattle.text.specs.Reading.{valueOf}
-use Rattle.context_line.specs.Shape.{digits, wide, shaped, valuesOf, others, lineShaped, numbersOf, noNumbers, readOf}
+use Rattle.context_line.specs.Shape.{digits, wide, shaped, valuesOf, fields, others, lineShaped, numbersOf, noNumbers, readOf}
 use Rattle.context_line.specs.ShapeLaws.{values-length, run-within, shape-narrow, shape-on, shape-parted, shape-whole, shape-more, values-on, values-last, space-within}
 use Rattle.context_line.specs.declared.line.Numbers.{Numbers}
 
@@ -19,19 +19,19 @@ pub record Walk (line values : List ℕ) (k at : ℕ) : Type 0 where
   pub count : k ≤ others
   pub shape : shaped (others - k) (drop at line) ≡ lineShaped line
   pub numbers : over values k (valuesOf (others - k) (drop at line)) ≡ numbersOf line
-  pub room : length values ≡ suc others
+  pub room : length values ≡ fields
 
 -- a text over a room of its length
 over-whole : (text out : List ℕ) → length text ≡ length out → over out 0 text ≡ text
 over-whole text out h = let l : length out ≤ 0 + length text = omega arith in over-is text out 0 (omega arith) ∙ simp (drop-of-length-le out l) (append-nil text)
 
-pub start : (line : List ℕ) → Walk line (replicate (suc others) 0) 0 0
+pub start : (line : List ℕ) → Walk line (replicate (fields) 0) 0 0
 start line =
     record {
       within = omega arith;
       count = omega arith;
       shape = refl;
-      numbers = over-whole (numbersOf line) (replicate (suc others) 0) (values-length others line);
+      numbers = over-whole (numbersOf line) (replicate (fields) 0) (values-length others line);
       room = refl;
     }
 
@@ -48,7 +48,7 @@ module _ {line values : List ℕ} {k at : ℕ} (w : Walk line values k at) {end 
 
   module _ (f : wide (end - at) ≡ true) where
     -- the last number
-    module _ (last : k + 1 ≡ suc others) where
+    module _ (last : k + 1 ≡ fields) where
       pub longer : end < length line → noNumbers ≡ readOf line
       longer h = unshaped 0 (omega arith) (shape-more line at e f h)
 
@@ -65,7 +65,7 @@ module _ {line values : List ℕ} {k at : ℕ} (w : Walk line values k at) {end 
           rw s (ap (λ (l : List ℕ). record { shaped = true; values = l }) m)
 
     -- another follows
-    module _ (more : k + 1 ≡ suc others → ⊥) where
+    module _ (more : k + 1 ≡ fields → ⊥) where
       one-less : others - k ≡ suc (others - (k + 1))
       one-less = omega (arith, w .count)
 

@@ -3,3 +3,6 @@
 pub mod Shape
 pub mod RunLaws
 pub mod ShapeLaws
+pub mod Fields
+pub mod FieldLaws
+pub mod Read

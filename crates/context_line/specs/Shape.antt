@@ -3,7 +3,7 @@
 use mathlib.Core.Path.{_≡_}
 use mathlib.Core.Bool.{Bool, true, false, cond, not, _&&_}
 use mathlib.Core.List.{List, [], _∷_}
-use Prim.Native.Nat.{ℕ, zero, suc, _≤_, _<_}
+use Prim.Native.Nat.{ℕ, zero, suc, _-_, _≤_, _<_}
 use lib.Dec.{leb, eqb}
 use lib.ListN.{length, take, drop, getD, replicate}
 use Rattle.laws.specs.Front.{front}
@@ -46,9 +46,12 @@ unfoldable pub valuesOf : ℕ → List ℕ → List ℕ
 valuesOf zero text = valueOf (take (digits text) text) ∷ []
 valuesOf (suc more) text = valueOf (take (digits text) text) ∷ valuesOf more (drop (suc (digits text)) text)
 
--- a context's fields after the first
+-- a context's fields, and those after the first
+abbrev pub fields : ℕ
+fields = 15
+
 abbrev pub others : ℕ
-others = 14
+others = fields - 1
 
 -- of a line without its byte 10
 abbrev pub lineShaped : List ℕ → Bool
@@ -59,7 +62,7 @@ numbersOf line = valuesOf others line
 
 -- what the code reads a line into: its numbers where it is shaped, and else zeros
 abbrev pub noNumbers : Numbers
-noNumbers = record { shaped = false; values = replicate (suc others) 0 }
+noNumbers = record { shaped = false; values = replicate fields 0 }
 
 abbrev pub readOf : List ℕ → Numbers
 readOf line = cond (lineShaped line) (record { shaped = true; values = numbersOf line }) noNumbers

@@ -2,8 +2,15 @@
 ghost use mathlib.Core.Path.{_≡_};
 ghost use lib.Dec.{eqb};
 ghost use lib.ListN.{getD};
-ghost use Rattle.context_line.specs.Shape.{lineEnd, noNumbers, readOf};
+ghost use Rattle.refusal.specs.Judge.{Says};
+ghost use Rattle.context_line.specs.Shape.{lineEnd, numbersOf, noNumbers, readOf};
+ghost use Rattle.context_line.specs.Fields.{contextOf};
+ghost use Rattle.context_line.specs.Read.{read as Reads·read, lineTests};
+use crate::fields::FIELDS;
+use crate::fields::Read;
+use crate::fields::from_numbers;
 use crate::runs;
+use refusal::Refusal;
 
 const LINE_FEED: u8 = 10;
 
@@ -21,15 +28,12 @@ pub fn line_end(input: &[u8]) -> usize
     i
 }
 
-// A context's fields.
-const FIELDS: usize = 15;
-
 const SPACE: u8 = 32;
 
 // The numbers of a line that has the shape, and zeros for one that has not.
 struct Numbers {
     shaped: bool,
-    values: [u64; 15],
+    values: [u64; FIELDS],
 }
 
 fn is_space(line: &[u8], at: usize) -> bool
@@ -77,4 +81,16 @@ fn read_numbers(line: &[u8]) -> Numbers
         }
         at = end + 1;
     }
+}
+
+// The context that a line says, of which the byte 10 is left out.
+pub fn read(line: &[u8]) -> Read
+    ensures { λ r. ⌜ Says Reads·read (lineTests (now (line .entry))) (Read.Context (contextOf (numbersOf (now (line .entry))))) r ⌝ }
+{
+    let numbers = read_numbers(line);
+    if !numbers.shaped {
+        return Read::Refused(Refusal::MalformedLine);
+    }
+    let values = numbers.values;
+    from_numbers(&values)
 }
