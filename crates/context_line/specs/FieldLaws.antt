@@ -11,8 +11,12 @@ use lib.Dec.{leb}
 use lib.ListN.{length, drop, getD, drop-of-length-le}
 use Rattle.laws.specs.Lists.{drop-at}
 use Rattle.laws.specs.Tests.{both}
+use Rattle.refusal.specs.declared.Checked.{Checked}
+use Rattle.refusal.specs.declared.Checked.the-variants.{Passed}
+use Rattle.refusal.specs.Judge.{checkedOf}
+use Rattle.refusal.specs.JudgeLaws.{alone, shown}
 use Rattle.context_line.specs.Shape.{fields}
-use Rattle.context_line.specs.Fields.{mosts, fitting, Fitting}
+use Rattle.context_line.specs.Fields.{mosts, fitting, Fitting, fitsTest}
 
 -- a scan at place i: a number that fits, one that does not, no number left
 module _ (most values : List ℕ) {i : ℕ} (h : i < length most) (l : i < length values) where
@@ -37,3 +41,6 @@ fits-each (m ∷ more) (n ∷ values) e (suc k) h l = fits-each more values (bot
 
 pub at-most : {values : List ℕ} → Fitting values → (k : ℕ) → k < fields → (k < length values) × (getD values k 0 ≤ getD mosts k 0)
 at-most {values} f k h = (omega (arith, f .count), fits-each mosts values (f .fits) k h (omega (arith, f .count)))
+
+pub fits-shown : (values : List ℕ) {checked : Checked} → checked ≡ checkedOf (fitsTest values) → checked ≡ Passed → fitting mosts values ≡ true
+fits-shown values e p = shown (fitsTest values) [] (alone (fitsTest values) e) p .0

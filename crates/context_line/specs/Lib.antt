@@ -6,3 +6,4 @@ pub mod ShapeLaws
 pub mod Fields
 pub mod FieldLaws
 pub mod Read
+pub mod ReadLaws

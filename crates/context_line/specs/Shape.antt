@@ -65,7 +65,7 @@ abbrev pub noNumbers : Numbers
 noNumbers = record { shaped = false; values = replicate fields 0 }
 
 abbrev pub readOf : List ℕ → Numbers
-readOf line = cond (lineShaped line) (record { shaped = true; values = numbersOf line }) noNumbers
+readOf line = record { shaped = lineShaped line; values = cond (lineShaped line) (numbersOf line) (noNumbers .values) }
 
 -- refusal 12
 abbrev pub lineTest : List ℕ → Test
