@@ -7,3 +7,5 @@ pub mod Fields
 pub mod FieldLaws
 pub mod Read
 pub mod ReadLaws
+pub mod Written
+pub mod Worked
