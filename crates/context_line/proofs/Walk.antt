@@ -1,18 +1,17 @@
 -- The walk over a line's numbers: what holds before number k, which starts at place `at`.
 -- Assumes nothing.
 use mathlib.Core.Path.{_≡_, refl, sym, ap, _∙_}
-use mathlib.Core.Bool.{Bool, true, false}
-use mathlib.Core.List.{List, [], _∷_, _++_, append-nil}
+use mathlib.Core.Bool.{true, false}
+use mathlib.Core.List.{List, [], append-nil}
 use Prim.Native.Nat.{ℕ, suc, _+_, _-_, _≤_, _<_}
 use native.Mathlib.Omega.{arith}
 use lib.Dec.{eqb}
-use lib.ListN.{length, set, take, drop, getD, replicate, length-set, length-replicate, drop-of-length-le}
+use lib.ListN.{length, set, take, drop, getD, replicate, length-set, drop-of-length-le}
 use Rattle.text.specs.Over.{over}
 use Rattle.text.specs.OverLaws.{over-is, over-step, over-none}
 use Rattle.text.specs.Reading.{valueOf}
 use Rattle.context_line.specs.Shape.{digits, wide, shaped, valuesOf, fields, others, lineShaped, numbersOf, noNumbers, readOf}
-use Rattle.context_line.specs.ShapeLaws.{values-length, run-within, shape-narrow, shape-on, shape-parted, shape-whole, shape-more, values-on, values-last, space-within}
-use Rattle.context_line.specs.declared.line.Numbers.{Numbers}
+use Rattle.context_line.specs.ShapeLaws.{values-length, shape-narrow, shape-on, shape-parted, shape-whole, shape-more, values-on, values-last, space-within}
 
 pub record Walk (line values : List ℕ) (k at : ℕ) : Type 0 where
   pub within : at ≤ length line
@@ -74,15 +73,14 @@ module _ {line values : List ℕ} {k at : ℕ} (w : Walk line values k at) {end 
 
       pub onward : {n : ℕ} → n ≡ valueOf (take (end - at) (drop at line)) → eqb (getD line end 0) 32 ≡ true → Walk line (set values k n) (k + 1) (end + 1)
       onward {n} v s =
-          let here = drop at line in
           let next = others - (k + 1) in
           record {
             within = omega (arith, space-within line end s);
             count = omega (arith, w .count);
             shape = sym (shape-on line at e f next s) ∙ ap (λ (j : ℕ). shaped j (drop at line)) (sym one-less) ∙ w .shape;
             numbers =
-            sym (over-step values k n (valuesOf next (drop (end + 1) line)))
-            ∙ ap (over values k) (sym (values-on line at e v next) ∙ ap (λ (j : ℕ). valuesOf j (drop at line)) (sym one-less))
-            ∙ w .numbers;
+                sym (over-step values k n (valuesOf next (drop (end + 1) line)))
+                ∙ ap (over values k) (sym (values-on line at e v next) ∙ ap (λ (j : ℕ). valuesOf j (drop at line)) (sym one-less))
+                ∙ w .numbers;
             room = simp length-set (w .room);
           }

@@ -12,7 +12,7 @@ use Rattle.craft_context.specs.declared.context.CraftContext.{CraftContext}
 use Rattle.craft_context.specs.Limits.{limitTest, contextTests}
 use Rattle.context_line.specs.Shape.{fields}
 
--- the greatest number of each type that a field has: u32, u8, i8 and a flag's 0 or 1
+-- the greatest number of each type that a field has: u32, u8, i8
 abbrev pub wordMost : ℕ
 wordMost = 2 ^ 32 - 1
 
@@ -22,8 +22,9 @@ byteMost = 255
 abbrev signedMost : ℕ
 signedMost = 127
 
-abbrev flagMost : ℕ
-flagMost = 1
+-- a flag is 0 or 1, and 1 sets it
+abbrev flagSet : ℕ
+flagSet = 1
 
 -- field by field
 abbrev pub mosts : List ℕ
@@ -38,11 +39,11 @@ mosts =
     wordMost ∷
     signedMost ∷
     wordMost ∷
-    flagMost ∷
+    flagSet ∷
     wordMost ∷
-    flagMost ∷
-    flagMost ∷
-    flagMost ∷
+    flagSet ∷
+    flagSet ∷
+    flagSet ∷
     []
 
 -- each number is at most the one in its place
@@ -73,11 +74,11 @@ contextOf values =
       «quality_target» = getD values 7 0;
       «durability_max» = pos (getD values 8 0);
       «cp_max» = getD values 9 0;
-      «is_expert» = eqb (getD values 10 0) 1;
+      «is_expert» = eqb (getD values 10 0) flagSet;
       «action_pool» = record { 0 = getD values 11 0 };
-      «player_is_specialist» = eqb (getD values 12 0) 1;
-      «use_manipulation» = eqb (getD values 13 0) 1;
-      «use_delineation» = eqb (getD values 14 0) 1;
+      «player_is_specialist» = eqb (getD values 12 0) flagSet;
+      «use_manipulation» = eqb (getD values 13 0) flagSet;
+      «use_delineation» = eqb (getD values 14 0) flagSet;
     }
 
 -- and refusal 1 for a field outside its limit

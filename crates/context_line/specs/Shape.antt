@@ -12,9 +12,13 @@ use Rattle.refusal.specs.declared.Refusal.the-variants.{MalformedLine}
 use Rattle.text.specs.Reading.{valueOf}
 use Rattle.context_line.specs.declared.line.Numbers.{Numbers}
 
+-- byte 10 ends a line
+abbrev pub inLine : ℕ → Bool
+inLine b = not (eqb b 10)
+
 -- the place of the first byte 10, or the length where there is none
 abbrev pub lineEnd : List ℕ → ℕ
-lineEnd input = front (λ b. not (eqb b 10)) input
+lineEnd input = front inLine input
 
 -- 0 to 9
 abbrev pub digit : ℕ → Bool
@@ -24,24 +28,24 @@ digit b = leb 48 b && leb b 57
 abbrev pub digits : List ℕ → ℕ
 digits text = front digit text
 
--- the most digits that a number is written in
 abbrev pub digitsMost : ℕ
 digitsMost = 10
 
+-- a number has 1 to 10 digits
 abbrev pub wide : ℕ → Bool
 wide w = leb 1 w && leb w digitsMost
 
--- digits and nothing else, few enough to be read
+-- digits alone, few enough for a number
 pub record Run (text : List ℕ) : Type 0 where
   pub few : length text ≤ digitsMost
   pub each : (i : ℕ) → i < length text → digit (getD text i 0) ≡ true
 
--- a number, and `more` others, each after one space: nothing before the first and nothing after the last
+-- a number and `more` others, each after one byte 32, and nothing else
 unfoldable pub shaped : ℕ → List ℕ → Bool
 shaped zero text = wide (digits text) && leb (length text) (digits text)
 shaped (suc more) text = wide (digits text) && (eqb (getD text (digits text) 0) 32 && shaped more (drop (suc (digits text)) text))
 
--- the numbers of such a text
+-- the numbers of such a text; zeros may lead
 unfoldable pub valuesOf : ℕ → List ℕ → List ℕ
 valuesOf zero text = valueOf (take (digits text) text) ∷ []
 valuesOf (suc more) text = valueOf (take (digits text) text) ∷ valuesOf more (drop (suc (digits text)) text)
@@ -60,7 +64,7 @@ lineShaped line = shaped others line
 abbrev pub numbersOf : List ℕ → List ℕ
 numbersOf line = valuesOf others line
 
--- what the code reads a line into: its numbers where it is shaped, and else zeros
+-- what the code reads a line into: its numbers where it is shaped, else zeros
 abbrev pub noNumbers : Numbers
 noNumbers = record { shaped = false; values = replicate fields 0 }
 

@@ -19,14 +19,15 @@ pub enum Read {
 
 pub const FIELDS: usize = 15;
 
-// The greatest number of each type that a field has: u32, u8, i8 and a flag's 0 or 1.
+// The greatest number of each type that a field has: u32, u8, i8.
 const WORD_MOST: u64 = 4294967295;
 
 const BYTE_MOST: u64 = 255;
 
 const SIGNED_MOST: u64 = 127;
 
-const FLAG_MOST: u64 = 1;
+// A flag is 0 or 1, and 1 sets it.
+const FLAG_SET: u64 = 1;
 
 // Field by field.
 const MOSTS: [u64; FIELDS] = [
@@ -40,11 +41,11 @@ const MOSTS: [u64; FIELDS] = [
     WORD_MOST,
     SIGNED_MOST,
     WORD_MOST,
-    FLAG_MOST,
+    FLAG_SET,
     WORD_MOST,
-    FLAG_MOST,
-    FLAG_MOST,
-    FLAG_MOST,
+    FLAG_SET,
+    FLAG_SET,
+    FLAG_SET,
 ];
 
 // Refusal 1: a number that its field does not take.
@@ -62,6 +63,7 @@ fn check_fits(values: &[u64]) -> Checked
     Checked::Passed
 }
 
+// The number of a field that is a u32.
 fn word(values: &[u64], k: usize) -> u32
     requires { ⌜ (k < length (now values)) × (getD (now values) k 0 ≤ wordMost) ⌝ }
     ensures { λ r. ⌜ r ≡ getD (now (values .entry)) k 0 ⌝ }
@@ -84,14 +86,15 @@ fn context_of(values: &[u64]) -> CraftContext
         quality_target: word(values, 7),
         durability_max: values[8] as i8,
         cp_max: word(values, 9),
-        is_expert: values[10] == 1,
+        is_expert: values[10] == FLAG_SET,
         action_pool: ActionSet(word(values, 11)),
-        player_is_specialist: values[12] == 1,
-        use_manipulation: values[13] == 1,
-        use_delineation: values[14] == 1,
+        player_is_specialist: values[12] == FLAG_SET,
+        use_manipulation: values[13] == FLAG_SET,
+        use_delineation: values[14] == FLAG_SET,
     }
 }
 
+// The context of fifteen numbers, or refusal 1 for one that is outside its field's type or its limit.
 pub fn from_numbers(values: &[u64]) -> Read
     requires { ⌜ length (now values) ≡ fields ⌝ }
     ensures { λ r. ⌜ Says Reads·read (numberTests (now (values .entry))) (Read.Context (contextOf (now (values .entry)))) r ⌝ }

@@ -14,6 +14,14 @@ use refusal::Refusal;
 
 const LINE_FEED: u8 = 10;
 
+const SPACE: u8 = 32;
+
+// The numbers of a line that has the shape, and zeros for one that has not.
+struct Numbers {
+    shaped: bool,
+    values: [u64; FIELDS],
+}
+
 // The place of the first byte 10, or the input's length where there is none.
 pub fn line_end(input: &[u8]) -> usize
     ensures { λ r. ⌜ r ≡ lineEnd (now (input .entry)) ⌝ }
@@ -26,14 +34,6 @@ pub fn line_end(input: &[u8]) -> usize
         i += 1;
     }
     i
-}
-
-const SPACE: u8 = 32;
-
-// The numbers of a line that has the shape, and zeros for one that has not.
-struct Numbers {
-    shaped: bool,
-    values: [u64; FIELDS],
 }
 
 fn is_space(line: &[u8], at: usize) -> bool
@@ -54,6 +54,7 @@ fn malformed() -> Numbers
     }
 }
 
+// One number a turn. A line that breaks the shape is left at the first place where it does.
 fn read_numbers(line: &[u8]) -> Numbers
     ensures { λ r. ⌜ r ≡ readOf (now (line .entry)) ⌝ }
 {
@@ -83,7 +84,7 @@ fn read_numbers(line: &[u8]) -> Numbers
     }
 }
 
-// The context that a line says, of which the byte 10 is left out.
+// The context of a line, which comes without its byte 10. The whole line's shape is judged before any number.
 pub fn read(line: &[u8]) -> Read
     ensures { λ r. ⌜ Says Reads·read (lineTests (now (line .entry))) (Read.Context (contextOf (numbersOf (now (line .entry))))) r ⌝ }
 {

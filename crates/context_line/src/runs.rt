@@ -18,6 +18,7 @@ fn is_digit(b: u8) -> bool
     (ZERO <= b) & (b <= NINE)
 }
 
+// A number has 1 to 10 digits.
 pub fn is_wide(width: usize) -> bool
     ensures { λ r. ⌜ r ≡ wide width ⌝ }
 {
@@ -40,6 +41,7 @@ pub fn run_end(line: &[u8], at: usize) -> usize
     i
 }
 
+// What a digit is worth.
 fn worth(b: u8) -> u64
     requires { ⌜ digit b ≡ true ⌝ }
     ensures { λ r. ⌜ (r ≡ b - 48) × (r ≤ 9) ⌝ }

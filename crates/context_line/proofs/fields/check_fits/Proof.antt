@@ -5,7 +5,7 @@ use mathlib.Core.Bool.{Bool}
 use mathlib.Core.List.{List}
 use Prim.Native.Nat.{ℕ, _-_, _≤_}
 use native.Mathlib.Omega.{arith}
-use lib.ListN.{length, drop}
+use lib.ListN.{drop}
 use Rattle.refusal.specs.Judge.{checkedOf}
 use Rattle.craft_context.specs.Limits.{limitTest}
 use Rattle.context_line.specs.Shape.{fields}

@@ -6,7 +6,7 @@ use Prim.Native.Nat.{_-_, _≤_}
 use native.Mathlib.Omega.{arith}
 use borrow.Author.Tests.{not-true, not-false}
 use lib.ListN.{length}
-use Rattle.context_line.specs.Shape.{wide}
+use Rattle.context_line.specs.Shape.{wide, fields}
 use Rattle.context_line.specs.ShapeLaws.{run-within, run-here}
 use Rattle.context_line.proofs.Walk.{Walk, start, narrow, longer, whole, parted, onward}
 use Rattle.context_line.proofs.line.read_numbers.Statement.{statement}
@@ -16,7 +16,7 @@ abbrev Inv-loop : tie.InvT-loop
 Inv-loop line values₀ k₀ at₀ values k at = Walk line values k at
 
 abbrev μ-loop : tie.MeasureT-loop
-μ-loop line values₀ k₀ at₀ values k at = 15 - k
+μ-loop line values₀ k₀ at₀ values k at = fields - k
 
 -- a run ends in the line
 ends : (c : tie.After-run-end Inv-loop μ-loop) → c .run-end .result ≤ length (c .before .before .before .args .line .now)
