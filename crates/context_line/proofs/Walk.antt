@@ -24,13 +24,13 @@ pub record Walk (line values : List ℕ) (k at : ℕ) : Type 0 where
 over-whole : (text out : List ℕ) → length text ≡ length out → over out 0 text ≡ text
 over-whole text out h = let l : length out ≤ 0 + length text = omega arith in over-is text out 0 (omega arith) ∙ simp (drop-of-length-le out l) (append-nil text)
 
-pub start : (line : List ℕ) → Walk line (replicate (fields) 0) 0 0
+pub start : (line : List ℕ) → Walk line (replicate fields 0) 0 0
 start line =
     record {
       within = omega arith;
       count = omega arith;
       shape = refl;
-      numbers = over-whole (numbersOf line) (replicate (fields) 0) (values-length others line);
+      numbers = over-whole (numbersOf line) (replicate fields 0) (values-length others line);
       room = refl;
     }
 
@@ -38,7 +38,7 @@ no-numbers : (line : List ℕ) → lineShaped line ≡ false → noNumbers ≡ r
 no-numbers line e = rw e
 
 module _ {line values : List ℕ} {k at : ℕ} (w : Walk line values k at) {end : ℕ} (e : end ≡ at + digits (drop at line)) where
-  -- what a line is that goes on from here as one with m numbers to follow does
+  -- a line is malformed that goes on from here as none with m numbers to follow does
   unshaped : (m : ℕ) → others - k ≡ m → false ≡ shaped m (drop at line) → noNumbers ≡ readOf line
   unshaped m n f = no-numbers line (sym (f ∙ ap (λ (j : ℕ). shaped j (drop at line)) (sym n) ∙ w .shape))
 

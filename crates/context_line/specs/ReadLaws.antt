@@ -68,14 +68,13 @@ module _ {tests : List Test} {context : CraftContext} where
       by (Refused y) e = let other = when-refused s e in let same : x ≡ y = cc in ap Refused same ∙ e
 
 -- and the context is inside its limits
+inside : (values : List ℕ) {c : CraftContext} → c ≡ contextOf values → Passed ≡ checksOf (numberTests values) → ContextIn c
+inside values e p =
+    let q = shown (fitsTest values) (contextTests (contextOf values)) p refl .1 in
+    subst (λ (x : CraftContext). ContextIn x) (sym e) (context-in (contextOf values) q refl)
+
 pub numbers-inside : (values : List ℕ) {c : CraftContext} → Says read (numberTests values) (R.Context (contextOf values)) (R.Context c) → ContextIn c
-numbers-inside values s =
-    let e = read-context s in
-    subst (λ (x : CraftContext). ContextIn x) (sym (e .0)) (context-in (contextOf values) (shown (fitsTest values) (contextTests (contextOf values)) (e .1) refl .1) refl)
+numbers-inside values s = let e = read-context s in inside values (e .0) (e .1)
 
 pub line-inside : (line : List ℕ) {c : CraftContext} → Says read (lineTests line) (R.Context (contextOf (numbersOf line))) (R.Context c) → ContextIn c
-line-inside line s =
-    let e = read-context s in
-    let values = numbersOf line in
-    let numbers = shown (lineTest line) (numberTests values) (e .1) refl .1 in
-    subst (λ (x : CraftContext). ContextIn x) (sym (e .0)) (context-in (contextOf values) (shown (fitsTest values) (contextTests (contextOf values)) numbers refl .1) refl)
+line-inside line s = let e = read-context s in inside (numbersOf line) (e .0) (shown (lineTest line) (numberTests (numbersOf line)) (e .1) refl .1)

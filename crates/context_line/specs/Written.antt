@@ -16,7 +16,7 @@ use Rattle.text.specs.Decimal.{decimal, decimalOf}
 use Rattle.text.specs.LengthLaws.{decimal-length}
 use Rattle.text.specs.Reading.{valueOf, Each, DecimalDigit}
 use Rattle.text.specs.Value.{decimal-value, decimal-digits}
-use Rattle.context_line.specs.Shape.{digits, digitsMost, wide, shaped, valuesOf, fields, lineShaped, numbersOf}
+use Rattle.context_line.specs.Shape.{digits, digitsMost, wide, shaped, valuesOf, fields, others, lineShaped, numbersOf}
 
 -- ---- the line
 
@@ -66,9 +66,9 @@ module _ (n : ℕ) (h : Brief n) (b : List ℕ) (z : digits b ≡ 0) where
 
 -- ---- the theorem
 
-pub record Reads (more : ℕ) (text numbers : List ℕ) : Type 0 where
-  pub shape : shaped more text ≡ true
-  pub values : valuesOf more text ≡ numbers
+record Reads (more : ℕ) (text numbers : List ℕ) : Type 0 where
+  shape : shaped more text ≡ true
+  values : valuesOf more text ≡ numbers
 
 -- a number alone
 last-reads : (n : ℕ) → Brief n → Reads 0 (decimalOf n) (n ∷ [])
@@ -104,5 +104,5 @@ pub line-reads : (numbers : List ℕ) → length numbers ≡ fields → Each Bri
 line-reads [] c e = absurd (omega arith)
 line-reads (n ∷ rest) c e =
     let r = from-reads n rest (e .0) (e .1) in
-    let fourteen : length rest ≡ 14 = omega arith in
-    (rw fourteen at (r .shape), rw fourteen at (r .values))
+    let count : length rest ≡ others = omega arith in
+    (rw count at (r .shape), rw count at (r .values))

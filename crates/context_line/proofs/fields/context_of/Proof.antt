@@ -2,13 +2,13 @@
 -- Assumes nothing.
 use Prim.Native.Nat.{_<_}
 use native.Mathlib.Omega.{arith}
+use borrow.Author.Needs.{needs}
 use lib.Dec.{lit<}
 use lib.ListN.{getD}
 use mir.Syntax.{w8}
 use mir.Facts.{toZ-pos}
 use Rattle.context_line.specs.Fields.{contextOf}
 use Rattle.context_line.specs.FieldLaws.{at-most}
-use borrow.Author.Needs.{needs}
 use Rattle.context_line.proofs.fields.context_of.Statement.{statement}
 use Rattle.context_line.proofs.fields.context_of.Tie as tie
 
