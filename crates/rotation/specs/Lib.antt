@@ -1,0 +1,10 @@
+pub mod Gaps
+pub mod Words
+pub mod Next
+pub mod WordLaws
+pub mod NextLaws
+pub mod WalkLaws
+pub mod Lines
+pub mod LineLaws
+pub mod Seconds
+pub mod SecondLaws
