@@ -24,7 +24,16 @@ pub words-cases : (P : List Word → Type 0) (at : ℕ) (word : List ℕ) (b : �
     → (gap b ≡ false → P (wordsFrom at (word ++ (b ∷ [])) text))
     → P (wordsFrom at word (b ∷ text))
 unfolding wordsFrom
-words-cases P at word b text f g = ⊎-elim (λ (e : gap b ≡ true). rw e (f e)) (λ (e : gap b ≡ false). rw e (g e)) (either (gap b))
+words-cases P at word b text f g =
+    ⊎-elim (λ (e : gap b ≡ true). rw e (f e)) (λ (e : gap b ≡ false). rw e (g e)) (either (gap b))
+
+pub words-gap : (at : ℕ) (word : List ℕ) (b : ℕ) (text : List ℕ) → gap b ≡ true → wordsFrom at word (b ∷ text) ≡ ended at word (wordsFrom (at + length word + 1) [] text)
+unfolding wordsFrom
+words-gap at word b text e = rw e
+
+pub words-letter : (at : ℕ) (word : List ℕ) (b : ℕ) (text : List ℕ) → gap b ≡ false → wordsFrom at word (b ∷ text) ≡ wordsFrom at (word ++ (b ∷ [])) text
+unfolding wordsFrom
+words-letter at word b text e = rw e
 
 pub words-end : (at : ℕ) (word : List ℕ) → wordsFrom at word [] ≡ ended at word []
 unfolding wordsFrom
@@ -64,6 +73,33 @@ one-word (b ∷ text) at h e =
     let n : front letter (b ∷ text) ≡ suc (front letter text) = rw e in
     let k : length (take (front letter text) text) ≡ front letter text = length-take-le (front letter text) text (front-le letter text) in
     (letters-taken (b ∷ text) at [] ∙ simp (n, k), omega arith)
+
+-- ---- a gap parts the words before it from those after it
+
+ended-append : (at : ℕ) (word : List ℕ) (more rest : List Word) → ended at word (more ++ rest) ≡ ended at word more ++ rest
+ended-append at [] more rest = refl
+ended-append at (b ∷ word) more rest = refl
+
+pub words-seam : (before : List ℕ) (at : ℕ) (word : List ℕ) (b : ℕ) (text : List ℕ) → gap b ≡ true
+    → wordsFrom at word (before ++ (b ∷ text)) ≡ wordsFrom at word before ++ wordsFrom (at + length word + length before + 1) [] text
+words-seam [] at word b text e =
+    let n : at + length word + 1 ≡ at + length word + 0 + 1 = omega arith in
+    words-gap at word b text e ∙ ended-append at word [] _ ∙ rw words-end (ap (λ (k : ℕ). ended at word [] ++ wordsFrom k [] text) n)
+words-seam (x ∷ before) at word b text e =
+    ⊎-elim
+    (λ (g : gap x ≡ true).
+    let n : at + length word + 1 + 0 + length before + 1 ≡ at + length word + suc (length before) + 1 = omega arith in
+    words-gap at word x (before ++ (b ∷ text)) g
+    ∙ ap (ended at word) (words-seam before (at + length word + 1) [] b text e ∙ ap (λ (k : ℕ). wordsFrom (at + length word + 1) [] before ++ wordsFrom k [] text) n)
+    ∙ ended-append at word _ _
+    ∙ ap (λ (w : List Word). w ++ wordsFrom (at + length word + suc (length before) + 1) [] text) (sym (words-gap at word x before g)))
+    (λ (g : gap x ≡ false).
+    let n : at + length (word ++ (x ∷ [])) + length before + 1 ≡ at + length word + suc (length before) + 1 = omega (arith, length-append word (x ∷ [])) in
+    words-letter at word x (before ++ (b ∷ text)) g
+    ∙ words-seam before at (word ++ (x ∷ [])) b text e
+    ∙ ap (λ (k : ℕ). wordsFrom at (word ++ (x ∷ [])) before ++ wordsFrom k [] text) n
+    ∙ ap (λ (w : List Word). w ++ wordsFrom (at + length word + suc (length before) + 1) [] text) (sym (words-letter at word x before g)))
+    (either (gap x))
 
 -- ---- how many there are
 
