@@ -17,7 +17,7 @@ use Rattle.action.specs.declared.names.Found.the-variants.{Action, Nothing}
 use Rattle.rotation.specs.Gaps.{gap, letter}
 use Rattle.rotation.specs.Words.{Word, ended, wordsFrom, wordsOf, isFound, allFound, firstUnknown, wordsKnown, unknownAt}
 use Rattle.rotation.specs.WordLaws.{words-cases, words-gap, words-letter, words-end, one-word, words-seam}
-use Rattle.rotation.specs.First.{StartsAt, wordAt, FirstUnknown}
+use Rattle.rotation.specs.First.{wordAt, FirstUnknown}
 
 -- ---- a word that has ended: it is known, and the rest decides, or it is the first unknown one
 

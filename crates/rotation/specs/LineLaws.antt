@@ -7,13 +7,13 @@ use native.Mathlib.Omega.{arith}
 use lib.ListN.{length, drop, getD, length-append, drop-of-length-le}
 use Rattle.laws.specs.Lists.{drop-at}
 use Rattle.text.specs.Over.{over, Put}
-use Rattle.text.specs.OverLaws.{over-more, over-none, then}
+use Rattle.text.specs.OverLaws.{over-more, then}
 use Rattle.action.specs.Known.{actions}
 use Rattle.action.specs.Names.{nameOf, textOf}
 use Rattle.action.specs.NameLaws.{name-short}
 use Rattle.action.specs.declared.texts.Text.the-variants.{Name}
 use Rattle.rotation.specs.Gaps.{newline}
-use Rattle.rotation.specs.Lines.{lineOf, listTextOf}
+use Rattle.rotation.specs.Lines.{lineOf, lineMost, listTextOf}
 
 -- ---- one line
 
@@ -21,7 +21,7 @@ pub line-length : (n : ℕ) → length (lineOf n) ≡ length (textOf Name n) + 1
 unfolding lineOf textOf
 line-length n = length-append (nameOf n) (newline ∷ [])
 
-pub line-short : (n : ℕ) → n < actions → length (lineOf n) ≤ 25
+pub line-short : (n : ℕ) → n < actions → length (lineOf n) ≤ lineMost
 unfolding textOf
 line-short n h = omega (arith, line-length n, name-short n h)
 

@@ -1,29 +1,25 @@
 -- Laws of what follows a place of a text: it is the first of the words from there on. And the walks over them.
 -- Assumes nothing.
 use mathlib.Core.Path.{_≡_, refl, sym, ap, subst, _∙_}
-use mathlib.Core.Bool.{Bool, true, false, cond}
+use mathlib.Core.Bool.{Bool, true, false}
 use mathlib.Core.List.{List, [], _∷_}
-use Prim.Native.Nat.{ℕ, suc, _+_, _-_, _≤_, _<_}
+use Prim.Native.Nat.{ℕ, _-_, _≤_, _<_}
 use native.Mathlib.Nat.{add-zero}
-use native.Mathlib.Numerals.{add-one}
 use native.Mathlib.Omega.{arith}
 use borrow.Author.Tests.{leb-true, leb-false, le-leb, lt-leb}
 use lib.Dec.{leb}
-use lib.ListN.{length, drop, getD, set, drop-of-length-le, length-drop}
+use lib.ListN.{length, drop, getD, drop-of-length-le, length-drop}
 use lib.Seq.{drop-drop, getD-drop}
 use Rattle.laws.specs.Front.{front, front-le, front-after}
-use Rattle.text.specs.Over.{over, Put}
-use Rattle.text.specs.OverLaws.{over-none, over-step}
 use Rattle.action.specs.Names.{foundOf}
 use Rattle.action.specs.declared.names.Found.{Found}
 use Rattle.action.specs.declared.names.Found.the-variants as F
 use Rattle.rotation.specs.Gaps.{gap, letter}
-use Rattle.rotation.specs.Words.{Word, wordsFrom, wordsOf, numbers, allFound, firstUnknown, actionsIn, wordsKnown, unknownAt, countedOf}
+use Rattle.rotation.specs.Words.{Word, wordsFrom, allFound, firstUnknown}
 use Rattle.rotation.specs.WordLaws.{gaps-passed, one-word, words-end}
 use Rattle.rotation.specs.Next.{startFrom, endFrom, between, told, nextFrom, nextOf}
 use Rattle.rotation.specs.declared.words.Next.{Next}
 use Rattle.rotation.specs.declared.words.Next.the-variants.{End, Unknown, Action}
-use Rattle.rotation.specs.declared.words.Counted.the-variants as C
 
 -- the words from a place on
 abbrev pub wordsAt : List ℕ → ℕ → List Word

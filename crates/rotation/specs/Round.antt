@@ -7,7 +7,7 @@ use mathlib.Core.List.{List, [], _∷_, _++_, append-nil, append-assoc}
 use Prim.Native.Nat.{ℕ, suc, _+_, _≤_, _<_}
 use native.Mathlib.Omega.{arith}
 use lib.Dec.{T}
-use lib.ListN.{length, getD, length-append}
+use lib.ListN.{length, getD}
 use Rattle.laws.specs.Tests.{either, and-left, and-right}
 use Rattle.laws.specs.Same.{same-refl, below-at}
 use Rattle.action.specs.Table.{actionOf}

@@ -2,8 +2,8 @@
 -- Assumes nothing.
 use mathlib.Core.Path.{_≡_, refl, sym, ap, _∙_}
 use mathlib.Core.Bool.{true, false}
-use mathlib.Core.List.{List, []}
-use Prim.Native.Nat.{ℕ, zero, _+_, _≤_, _<_}
+use mathlib.Core.List.{List}
+use Prim.Native.Nat.{ℕ, _+_, _≤_, _<_}
 use native.Mathlib.Omega.{arith}
 use lib.ListN.{length, set, length-set}
 use Rattle.laws.specs.Tests.{true-false}
@@ -11,7 +11,6 @@ use Rattle.text.specs.Over.{over, Put}
 use Rattle.text.specs.OverLaws.{over-none, over-step}
 use Rattle.rotation.specs.Words.{Word, wordsOf, numbers, allFound, firstUnknown, actionsIn, wordsKnown, unknownAt, countedOf}
 use Rattle.rotation.specs.NextLaws.{wordsAt, Turn, Follows}
-use Rattle.rotation.specs.declared.words.Next.{Next}
 use Rattle.rotation.specs.declared.words.Next.the-variants as N
 use Rattle.rotation.specs.declared.words.Counted.the-variants.{Words, Unknown}
 

@@ -5,7 +5,7 @@ ghost use lib.ListN.{length};
 ghost use Rattle.refusal.specs.Judge.{sizeMost};
 ghost use Rattle.text.specs.Over.{Put};
 ghost use Rattle.action.specs.Known.{actions, knownFront};
-ghost use Rattle.rotation.specs.Lines.{lineOf, listTextOf};
+ghost use Rattle.rotation.specs.Lines.{lineOf, lineMost, listTextOf};
 use super::gaps::NEWLINE;
 use action::Text;
 
@@ -17,12 +17,14 @@ fn put_line(n: u8, out: &mut [u8], at: usize) -> usize
     text::put_byte(out, end, NEWLINE)
 }
 
-// No name is longer than the room that it is put into here.
+const LINE_MOST: usize = 25;
+
+// The length of a name's line, which is put into a room of its own: none is longer.
 fn line_len(n: u8) -> usize
     requires { ⌜ n < actions ⌝ }
-    ensures { λ r. ⌜ (r ≡ length (lineOf n)) × (r ≤ 25) ⌝ }
+    ensures { λ r. ⌜ (r ≡ length (lineOf n)) × (r ≤ lineMost) ⌝ }
 {
-    let mut room = [0u8; 25];
+    let mut room = [0u8; LINE_MOST];
     put_line(n, &mut room, 0)
 }
 

@@ -5,13 +5,13 @@ use Prim.Native.Nat.{_+_, _*_, _-_, _≤_}
 use native.Mathlib.Omega.{arith}
 use lib.ListN.{length, drop}
 use Rattle.action.specs.KnownLaws.{known-each}
-use Rattle.rotation.specs.Lines.{listTextOf}
+use Rattle.rotation.specs.Lines.{lineMost, listTextOf}
 use Rattle.rotation.specs.LineLaws.{lines-length, lines-end}
 use Rattle.rotation.proofs.lines.measure.Statement.{statement}
 use Rattle.rotation.proofs.lines.measure.Tie as tie
 
 abbrev Inv-loop : tie.InvT-loop
-Inv-loop list i₀ need₀ i need = (i ≤ length list) × (need ≤ 25 * i) × (need + length (listTextOf (drop i list)) ≡ length (listTextOf list))
+Inv-loop list i₀ need₀ i need = (i ≤ length list) × (need ≤ lineMost * i) × (need + length (listTextOf (drop i list)) ≡ length (listTextOf list))
 
 abbrev μ-loop : tie.MeasureT-loop
 μ-loop list i₀ need₀ i need = length list - i
