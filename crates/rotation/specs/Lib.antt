@@ -4,6 +4,7 @@ pub mod Next
 pub mod WordLaws
 pub mod NextLaws
 pub mod WalkLaws
+pub mod CountLaws
 pub mod First
 pub mod FirstLaws
 pub mod Lines
