@@ -3,3 +3,4 @@ pub mod Actions
 pub mod States
 pub mod Replays
 pub mod Lists
+pub mod ListLaws
