@@ -5,6 +5,7 @@ pub mod WordLaws
 pub mod NextLaws
 pub mod WalkLaws
 pub mod CountLaws
+pub mod ReadLaws
 pub mod First
 pub mod FirstLaws
 pub mod Lines
