@@ -1,3 +1,5 @@
+-- The definitions that the contracts cite, their laws and the theorems.
+-- Assumes nothing.
 pub mod Gaps
 pub mod Words
 pub mod Next
