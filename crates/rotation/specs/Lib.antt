@@ -6,9 +6,9 @@ pub mod Next
 pub mod WordLaws
 pub mod NextLaws
 pub mod WalkLaws
-pub mod CountLaws
 pub mod First
 pub mod FirstLaws
+pub mod CountLaws
 pub mod Lines
 pub mod LineLaws
 pub mod Seconds
