@@ -1,5 +1,5 @@
 //! What the Display lines of a run met: refusals, rooms about as long as the line, negative durabilities, and
-//! numbers that are longer than their fields.
+//! numbers that are wider than their fields.
 
 use super::line::ROOM;
 use crate::refusal::Refusal;
@@ -12,21 +12,21 @@ use crafty::CraftState;
 const NEGATIVE: &str = "negative durability";
 /// Those numbers of a line that can outgrow their fields: no durability_max inside the limits does.
 const OUTGROWN: [&str; 7] = [
-    "progress longer than 5",
-    "progress_target longer than 5",
-    "quality longer than 5",
-    "quality_target longer than 5",
-    "durability longer than 2",
-    "cp longer than 3",
-    "cp_max longer than 3",
+    "progress wider than its field",
+    "progress_target wider than its field",
+    "quality wider than its field",
+    "quality_target wider than its field",
+    "durability wider than its field",
+    "cp wider than its field",
+    "cp_max wider than its field",
 ];
 const ROOMS: [&str; 6] = [
     "no room",
-    "room shorter by more",
+    "room more than one short",
     "room one short",
     "room exact",
     "room one longer",
-    "room longer by more",
+    "room more than one longer",
 ];
 
 pub fn counts(displays: &[Numbers]) -> Tally {
@@ -63,7 +63,7 @@ fn count(tally: &mut Tally, numbers: &Numbers) -> Result<(), Refusal> {
 
 fn outgrown(state: &CraftState) -> impl Iterator<Item = &'static str> {
     let context = state.context;
-    let longer = [
+    let wider = [
         state.progress > 99_999,
         context.progress_target > 99_999,
         state.quality > 99_999,
@@ -72,7 +72,7 @@ fn outgrown(state: &CraftState) -> impl Iterator<Item = &'static str> {
         state.cp > 999,
         context.cp_max > 999,
     ];
-    OUTGROWN.into_iter().zip(longer).filter(|(_, is_longer)| *is_longer).map(|(field, _)| field)
+    OUTGROWN.into_iter().zip(wider).filter(|(_, is_wider)| *is_wider).map(|(field, _)| field)
 }
 
 fn room_beside(room: usize, needed: usize) -> &'static str {
