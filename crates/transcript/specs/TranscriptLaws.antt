@@ -3,16 +3,15 @@
 use mathlib.Core.Path.{_≡_, refl, sym, ap, subst, _∙_}
 use mathlib.Core.Bool.{true}
 use mathlib.Core.List.{List, [], _∷_, _++_}
-use Prim.Native.Nat.{ℕ, zero, suc, _+_, _*_, _≤_, _<_}
+use Prim.Native.Nat.{ℕ, _+_, _*_, _≤_, _<_}
 use native.Mathlib.Omega.{arith}
 use lib.Ieee.{binary32, toBits}
 use lib.ListN.{length, drop, take, getD, length-append, length-take, drop-of-length-le}
 use Rattle.laws.specs.Bits.{has}
 use Rattle.laws.specs.Lists.{drop-at}
 use Rattle.text.specs.Over.{over, Put}
-use Rattle.text.specs.OverLaws.{over-more}
+use Rattle.text.specs.OverLaws.{over-more, put-as}
 use Rattle.text.specs.LengthLaws.{decimal-most, hex-length}
-use Rattle.text.specs.Decimal.{decimalOf}
 use Rattle.action.specs.Known.{actions, knownFront}
 use Rattle.craft_context.specs.declared.context.CraftContext.{CraftContext}
 use Rattle.craft_context.specs.Limits.{ContextIn}
@@ -91,6 +90,10 @@ result-short R.DurabilityFailure = omega arith
 result-short R.MaxStepsFailure = omega arith
 result-short R.InvalidActionFailure = omega arith
 result-short R.Continuing = omega arith
+
+-- the text of a result by the result that it is found to be
+pub result-put : {result found : CraftResult} {out after : List ℕ} {at r : ℕ} → result ≡ found → Put out at (resultTextOf found) r after → Put out at (resultTextOf result) r after × (r ≤ at + resultMost)
+result-put {found = found} e p = (put-as (sym (ap resultTextOf e)) p, omega (arith, p .next, result-short found))
 
 pub last-short : (result : CraftResult) (executed listed : ℕ) → length (lastOf result executed listed) ≤ lastMost
 unfolding lastOf

@@ -23,27 +23,6 @@ fits-part c = search needs
 fits-most : (c : tie.Start) → SFits w8 (c .args .context .«durability_max»)
 fits-most c = search needs
 
-slice-aggregate-put-share : tie.Need-slice-aggregate-put-share
-slice-aggregate-put-share c = search needs
-
-put-share-requires : tie.Need-put-share-requires
-put-share-requires c κs = search needs
-
-slice-aggregate-put-share-2 : tie.Need-slice-aggregate-put-share-2
-slice-aggregate-put-share-2 c = search needs
-
-put-share-requires-2 : tie.Need-put-share-requires-2
-put-share-requires-2 c κs = search needs
-
-slice-aggregate-put-signed-share : tie.Need-slice-aggregate-put-signed-share
-slice-aggregate-put-signed-share c = search needs
-
-put-signed-share-requires : tie.Need-put-signed-share-requires
-put-signed-share-requires c κs = search needs
-
-slice-aggregate-put-share-3 : tie.Need-slice-aggregate-put-share-3
-slice-aggregate-put-share-3 c = search needs
-
 put-share-requires-3 : tie.Need-put-share-requires-3
 put-share-requires-3 c κs =
     let durability = c .before .before .before .before in
@@ -58,9 +37,6 @@ put-share-requires-3 c κs =
       durability .put-signed-share .ensures .1,
       durability .put-signed-share .kept .0,
     )
-
-same-length : tie.Need-same-length
-same-length c = search needs
 
 returns : tie.Need-returns
 unfolding lineOf
@@ -79,13 +55,13 @@ pub put-line-spec : {M : Type 1} → statement M
 put-line-spec =
     tie.close
     (tie.spec
-    slice-aggregate-put-share
-    put-share-requires
-    slice-aggregate-put-share-2
-    put-share-requires-2
-    slice-aggregate-put-signed-share
-    put-signed-share-requires
-    slice-aggregate-put-share-3
+    (λ c. search needs)
+    (λ c κs. search needs)
+    (λ c. search needs)
+    (λ c κs. search needs)
+    (λ c. search needs)
+    (λ c κs. search needs)
+    (λ c. search needs)
     put-share-requires-3
-    same-length
+    (λ c. search needs)
     returns)

@@ -7,21 +7,6 @@ use borrow.Author.Needs.{needs}
 use Rattle.craft_state.proofs.display.put_share.Statement.{statement}
 use Rattle.craft_state.proofs.display.put_share.Tie as tie
 
-put-number-requires : tie.Need-put-number-requires
-put-number-requires c κs = search needs
-
-put-byte-requires : tie.Need-put-byte-requires
-put-byte-requires c κs = search needs
-
-put-number-requires-2 : tie.Need-put-number-requires-2
-put-number-requires-2 c κs = search needs
-
-put-requires : tie.Need-put-requires
-put-requires c κs = search needs
-
-same-length : tie.Need-same-length
-same-length c = search needs
-
 returns : tie.Need-returns
 unfolding shareOf
 returns c =
@@ -34,4 +19,12 @@ returns c =
     )
 
 pub put-share-spec : {M : Type 1} → statement M
-put-share-spec = tie.close (tie.spec put-number-requires put-byte-requires put-number-requires-2 put-requires same-length returns)
+put-share-spec =
+    tie.close
+    (tie.spec
+    (λ c κs. search needs)
+    (λ c κs. search needs)
+    (λ c κs. search needs)
+    (λ c κs. search needs)
+    (λ c. search needs)
+    returns)

@@ -17,21 +17,6 @@ use Rattle.craft_state.proofs.display.put_signed_share.Tie as tie
 washed : (w : ℕ) (z : ℤ) → SFits w8 z → rightOf w (signedOf (toZ w8 (ofZ w8 z))) ≡ rightOf w (signedOf z)
 washed w z f = ap (λ (y : ℤ). rightOf w (signedOf y)) (toZ-ofZ w8 z f)
 
-put-signed-requires : tie.Need-put-signed-requires
-put-signed-requires c κs = search needs
-
-put-byte-requires : tie.Need-put-byte-requires
-put-byte-requires c κs = search needs
-
-put-signed-requires-2 : tie.Need-put-signed-requires-2
-put-signed-requires-2 c κs = search needs
-
-put-requires : tie.Need-put-requires
-put-requires c κs = search needs
-
-same-length : tie.Need-same-length
-same-length c = search needs
-
 returns : tie.Need-returns
 unfolding signedShareOf
 returns c =
@@ -47,4 +32,12 @@ returns c =
     )
 
 pub put-signed-share-spec : {M : Type 1} → statement M
-put-signed-share-spec = tie.close (tie.spec put-signed-requires put-byte-requires put-signed-requires-2 put-requires same-length returns)
+put-signed-share-spec =
+    tie.close
+    (tie.spec
+    (λ c κs. search needs)
+    (λ c κs. search needs)
+    (λ c κs. search needs)
+    (λ c κs. search needs)
+    (λ c. search needs)
+    returns)

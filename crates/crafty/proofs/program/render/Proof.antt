@@ -1,10 +1,10 @@
 -- `crafty::program::render` meets its contract.
 -- Assumes nothing.
-use mathlib.Core.Path.{_≡_, refl, sym, subst, _∙_}
+use mathlib.Core.Path.{_≡_, refl, sym, subst}
 use mathlib.Core.List.{List, [], _∷_}
-use Prim.Native.Nat.{ℕ, _+_, _≤_, _<_}
+use Prim.Native.Nat.{ℕ, _+_, _≤_}
 use native.Mathlib.Omega.{arith}
-use lib.ListN.{length, take, drop, length-drop}
+use lib.ListN.{length, take, length-drop}
 use lib.Seq.{length-take-le}
 use borrow.Author.Needs.{needs}
 use Rattle.refusal.specs.Judge.{Says}
@@ -38,20 +38,11 @@ Reading c r = Says read (lineTests (line-of c)) (R.Context (contextOf (numbersOf
 sized : (c : tie.After-line-end) → length (start-of c .args .input .now) ≤ 65536
 sized c = size-shown (c .before .before .before .check-size .ensures) (c .before .enum-told .given .1)
 
-check-size-requires : tie.Need-check-size-requires
-check-size-requires c κs = search needs
-
-enum-known-size : tie.Need-enum-known-size
-enum-known-size c = search needs
-
 returns : tie.Need-returns
 returns c = stopped-room (c .before .before .before .check-size .ensures) (c .before .size .given .1) refl
 
 enum-told : tie.Need-enum-told
 enum-told c = search needs
-
-line-end-requires : tie.Need-line-end-requires
-line-end-requires c κs = search needs
 
 returns-2 : tie.Need-returns-2
 returns-2 c =
@@ -61,30 +52,6 @@ returns-2 c =
 
 slice-aggregate-read : tie.Need-slice-aggregate-read
 slice-aggregate-read c = sym (length-take-le (c .before .before .line-end .result) (start-of (c .before .before) .args .input .now) (omega (arith, c .before .if1 .left)))
-
-read-requires : tie.Need-read-requires
-read-requires c κs = search needs
-
-enum-known-read : tie.Need-enum-known-read
-enum-known-read c = search needs
-
-enum-known-read-2 : tie.Need-enum-known-read-2
-enum-known-read-2 c = search needs
-
-add-render-words : tie.Need-add-render-words
-add-render-words c = search needs
-
-sub-render-words : tie.Need-sub-render-words
-sub-render-words c = search needs
-
-part-render-words-start : tie.Need-part-render-words-start
-part-render-words-start c = search needs
-
-part-render-words-end : tie.Need-part-render-words-end
-part-render-words-end c = search needs
-
-add-render-words-2 : tie.Need-add-render-words-2
-add-render-words-2 c = search needs
 
 render-words-requires : tie.Need-render-words-requires
 render-words-requires c κs =
@@ -106,9 +73,6 @@ returns-3 c =
     (onward-room (end-some input (omega (arith, ends line, said .before .before .if1 .left))) refl
     (stopped-room-by (lineTests (lineIn input)) (wordsTest (lineEnd input + 1) (wordsIn input) ∷ []) stop refl refl))
 
-same-length : tie.Need-same-length
-same-length c = search needs
-
 returns-4 : tie.Need-returns-4
 unfolding replayTextOf
 returns-4 c =
@@ -126,22 +90,22 @@ pub render-spec : {M : Type 1} → statement M
 render-spec =
     tie.close
     (tie.spec
-    check-size-requires
-    enum-known-size
+    (λ c κs. search needs)
+    (λ c. search needs)
     returns
     enum-told
-    line-end-requires
+    (λ c κs. search needs)
     returns-2
     slice-aggregate-read
-    read-requires
-    enum-known-read
-    enum-known-read-2
-    add-render-words
-    sub-render-words
-    part-render-words-start
-    part-render-words-end
-    add-render-words-2
+    (λ c κs. search needs)
+    (λ c. search needs)
+    (λ c. search needs)
+    (λ c. search needs)
+    (λ c. search needs)
+    (λ c. search needs)
+    (λ c. search needs)
+    (λ c. search needs)
     render-words-requires
     returns-3
-    same-length
+    (λ c. search needs)
     returns-4)

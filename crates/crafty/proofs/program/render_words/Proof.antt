@@ -1,14 +1,10 @@
 -- `crafty::program::render_words` meets its contract.
 -- Assumes nothing.
-use mathlib.Core.Path.{_≡_, refl, sym, ap, _∙_}
-use mathlib.Core.List.{List}
-use Prim.Native.Nat.{ℕ, _≤_}
+use mathlib.Core.Path.{refl, ap, _∙_}
 use native.Mathlib.Nat.{zero-add}
 use native.Mathlib.Omega.{arith}
-use lib.ListN.{length}
 use borrow.Author.Needs.{needs}
 use Rattle.refusal.specs.JudgeLaws.{stopped-room, onward-room, answered-room}
-use Rattle.text.specs.Over.{Put, over}
 use Rattle.text.specs.OverLaws.{Rendered, rendered, put-as}
 use Rattle.rotation.specs.Words.{actionsIn}
 use Rattle.rotation.specs.WordLaws.{actions-most, actions-known}
@@ -27,29 +23,14 @@ listed c =
     let s = start-of (c .before .before .before .before) in
     rendered (c .put-words .ensures) (omega (arith, actions-most (s .args .words .now), s .pre .1))
 
-count-requires : tie.Need-count-requires
-count-requires c κs = search needs
-
-enum-known-counted : tie.Need-enum-known-counted
-enum-known-counted c = search needs
-
 add-t10 : tie.Need-add-t10
 add-t10 c = let counted = c .before .before .before in omega (arith, stop-within _ (counted .count .ensures .0) (c .before .counted .given .1), start-of counted .pre .1)
 
 enum-told : tie.Need-enum-told
 enum-told c = search needs
 
-slice-aggregate-put-words : tie.Need-slice-aggregate-put-words
-slice-aggregate-put-words c = search needs
-
 put-words-requires : tie.Need-put-words-requires
 put-words-requires c κs = let counted = c .before .before .before in (words-known _ (counted .count .ensures .0) (c .before .enum-told .given .1), omega (arith, counted .count .ensures .1, start-of counted .pre .1))
-
-array-share-prefix-list : tie.Need-array-share-prefix-list
-array-share-prefix-list c = listed (c .before) .within
-
-slice-aggregate-put-transcript : tie.Need-slice-aggregate-put-transcript
-slice-aggregate-put-transcript c = listed (c .before .before) .count
 
 put-transcript-requires : tie.Need-put-transcript-requires
 put-transcript-requires c κs =
@@ -60,9 +41,6 @@ put-transcript-requires c κs =
 
 returns : tie.Need-returns
 returns c = let counted = c .before .before .before in stopped-room (words-stop _ (counted .count .ensures .0) (c .before .counted .given .1) (start-of counted .args .base) refl) refl refl
-
-same-length : tie.Need-same-length
-same-length c = search needs
 
 returns-2 : tie.Need-returns-2
 returns-2 c =
@@ -77,15 +55,15 @@ pub render-words-spec : {M : Type 1} → statement M
 render-words-spec =
     tie.close
     (tie.spec
-    count-requires
-    enum-known-counted
+    (λ c κs. search needs)
+    (λ c. search needs)
     add-t10
     enum-told
-    slice-aggregate-put-words
+    (λ c. search needs)
     put-words-requires
-    array-share-prefix-list
-    slice-aggregate-put-transcript
+    (λ c. listed (c .before) .within)
+    (λ c. listed (c .before .before) .count)
     put-transcript-requires
     returns
-    same-length
+    (λ c. search needs)
     returns-2)

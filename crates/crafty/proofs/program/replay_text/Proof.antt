@@ -30,27 +30,6 @@ text c = let run = c .before .before .before in input-accepted (input-of c) (rep
 abbrev room-last : tie.After-render → List Test
 room-last c = roomTest (length (start-of c .args .out .now)) (length (replayTextOf (start-of c .args .input .now))) ∷ []
 
-slice-aggregate-render : tie.Need-slice-aggregate-render
-slice-aggregate-render c = search needs
-
-render-requires : tie.Need-render-requires
-render-requires c κs = search needs
-
-enum-known-rendered : tie.Need-enum-known-rendered
-enum-known-rendered c = search needs
-
-enum-known-rendered-2 : tie.Need-enum-known-rendered-2
-enum-known-rendered-2 c = search needs
-
-array-share-prefix-room : tie.Need-array-share-prefix-room
-array-share-prefix-room c = text (c .before) .1 .within
-
-slice-aggregate-write : tie.Need-slice-aggregate-write
-slice-aggregate-write c = text (c .before .before) .1 .count
-
-write-requires : tie.Need-write-requires
-write-requires c κs = search needs
-
 returns : tie.Need-returns
 returns c =
     let found = c .before in
@@ -58,9 +37,6 @@ returns c =
     let input = start-of run .args .input .now in
     let stop = input-refused input (replicate 32768 0) (run .render .ensures) (found .rendered .given .1) in
     stopped-room-by (inputTests input) (room-last run) stop refl refl
-
-same-length : tie.Need-same-length
-same-length c = search needs
 
 returns-2 : tie.Need-returns-2
 returns-2 c =
@@ -72,13 +48,13 @@ pub replay-text-spec : {M : Type 1} → statement M
 replay-text-spec =
     tie.close
     (tie.spec
-    slice-aggregate-render
-    render-requires
-    enum-known-rendered
-    enum-known-rendered-2
-    array-share-prefix-room
-    slice-aggregate-write
-    write-requires
+    (λ c. search needs)
+    (λ c κs. search needs)
+    (λ c. search needs)
+    (λ c. search needs)
+    (λ c. text (c .before) .1 .within)
+    (λ c. text (c .before .before) .1 .count)
+    (λ c κs. search needs)
     returns
-    same-length
+    (λ c. search needs)
     returns-2)

@@ -9,21 +9,6 @@ use borrow.Author.Needs.{needs}
 use Rattle.transcript.proofs.last.put_finished.Statement.{statement}
 use Rattle.transcript.proofs.last.put_finished.Tie as tie
 
-float-to-bits-bits : tie.Need-float-to-bits-bits
-float-to-bits-bits c = search needs
-
-slice-aggregate-put : tie.Need-slice-aggregate-put
-slice-aggregate-put c = search needs
-
-put-requires : tie.Need-put-requires
-put-requires c κs = search needs
-
-put-hex-requires : tie.Need-put-hex-requires
-put-hex-requires c κs = search needs
-
-same-length : tie.Need-same-length
-same-length c = search needs
-
 returns : tie.Need-returns
 unfolding finishedOf
 returns c =
@@ -35,9 +20,9 @@ pub put-finished-spec : {M : Type 1} → statement M
 put-finished-spec =
     tie.close
     (tie.spec
-    float-to-bits-bits
-    slice-aggregate-put
-    put-requires
-    put-hex-requires
-    same-length
+    (λ c. search needs)
+    (λ c. search needs)
+    (λ c κs. search needs)
+    (λ c κs. search needs)
+    (λ c. search needs)
     returns)

@@ -1,8 +1,7 @@
 -- `transcript::rows::put_rows` meets its contract.
 -- Assumes nothing.
 use mathlib.Core.Path.{_≡_, refl, sym, ap, subst, _∙_}
-use mathlib.Core.List.{List}
-use Prim.Native.Nat.{ℕ, _+_, _*_, _-_, _≤_, _<_}
+use Prim.Native.Nat.{_+_, _*_, _-_, _≤_}
 use native.Mathlib.Omega.{arith}
 use lib.ListN.{length, drop}
 use Rattle.text.specs.Over.{over}
@@ -30,9 +29,6 @@ abbrev μ-loop : tie.MeasureT-loop
 loop-holds : tie.Need-loop-holds Inv-loop μ-loop
 loop-holds c = let start = c .before .before in (omega arith, start .pre .0, start .pre .1, refl, refl, omega arith, refl)
 
-shared-slice-read-execute : tie.Need-shared-slice-read-execute Inv-loop μ-loop
-shared-slice-read-execute c = omega arith
-
 execute-requires : tie.Need-execute-requires Inv-loop μ-loop
 execute-requires c κs =
     let l = c .before .before .loop in
@@ -41,12 +37,6 @@ execute-requires c κs =
 
 put-row-requires : tie.Need-put-row-requires Inv-loop μ-loop
 put-row-requires c κs = let l = c .before .before .before .before .loop in omega (arith, l .inv .5, l .inv .6, c .before .before .before .loop-test .taken, c .before .before .before .before .before .before .before .pre .2)
-
-add-i : tie.Need-add-i Inv-loop μ-loop
-add-i c = omega arith
-
-loop-less : tie.Need-loop-less Inv-loop μ-loop
-loop-less c = omega arith
 
 loop-again : tie.Need-loop-again Inv-loop μ-loop
 loop-again c =
@@ -64,9 +54,6 @@ loop-again c =
       omega (arith, row .put-row .ensures .1, l .inv .5),
       row .put-row .kept .1 .1 .0 ∙ l .inv .6,
     )
-
-same-length : tie.Need-same-length Inv-loop μ-loop
-same-length c = c .before .loop .inv .6
 
 returns : tie.Need-returns Inv-loop μ-loop
 returns c =
@@ -87,11 +74,11 @@ put-rows-spec =
     Inv-loop
     μ-loop
     loop-holds
-    shared-slice-read-execute
+    (λ c. omega arith)
     execute-requires
     put-row-requires
-    add-i
-    loop-less
+    (λ c. omega arith)
+    (λ c. omega arith)
     loop-again
-    same-length
+    (λ c. c .before .loop .inv .6)
     returns)

@@ -1,8 +1,6 @@
 -- `transcript::whole::put_transcript` meets its contract.
 -- Assumes nothing.
 use mathlib.Core.Path.{_≡_, sym, subst, _∙_}
-use mathlib.Core.List.{List}
-use Prim.Native.Nat.{ℕ, _≤_}
 use native.Mathlib.Nat.{min-eq-left}
 use native.Mathlib.Omega.{arith}
 use lib.ListN.{length, take, length-take}
@@ -34,18 +32,6 @@ promise c = let s = start-of c in kept (s .args .context) (s .args .list .now) (
 part-length : (c : tie.After-execute-actions) → length (take (c .execute-actions .result .executed) (start-of c .args .list .now)) ≡ c .execute-actions .result .executed
 part-length c = length-take _ (start-of c .args .list .now) ∙ min-eq-left (promise c .executed .part)
 
-execute-actions-requires : tie.Need-execute-actions-requires
-execute-actions-requires c κs = search needs
-
-fresh-requires : tie.Need-fresh-requires
-fresh-requires c κs = search needs
-
-put-row-requires : tie.Need-put-row-requires
-put-row-requires c κs = search needs
-
-slice-aggregate-put-rows : tie.Need-slice-aggregate-put-rows
-slice-aggregate-put-rows c = sym (part-length (c .before .before .before .before .before .before))
-
 put-rows-requires : tie.Need-put-rows-requires
 put-rows-requires c κs =
     let fresh = c .before .before .before .before .before .before in
@@ -71,9 +57,6 @@ put-last-requires c κs =
     let replayed = row .before .before .before in
     (replayed .execute-actions .ensures .1, omega (arith, row .put-row .ensures .1, rows .put-rows .ensures .1, promise replayed .few, part-length replayed))
 
-same-length : tie.Need-same-length
-same-length c = search needs
-
 returns : tie.Need-returns
 returns c =
     let last = c .before .before in
@@ -88,13 +71,13 @@ pub put-transcript-spec : {M : Type 1} → statement M
 put-transcript-spec =
     tie.close
     (tie.spec
-    execute-actions-requires
-    fresh-requires
-    put-row-requires
-    slice-aggregate-put-rows
+    (λ c κs. search needs)
+    (λ c κs. search needs)
+    (λ c κs. search needs)
+    (λ c. sym (part-length (c .before .before .before .before .before .before)))
     put-rows-requires
     cast-put-last
     cast-put-last-2
     put-last-requires
-    same-length
+    (λ c. search needs)
     returns)
