@@ -1,0 +1,3 @@
+-- What the proof of the reader leans on.
+-- Assumes nothing.
+mod Walk

@@ -1,0 +1,80 @@
+-- Laws of what the reader answers: how its tests go, and what the answer tells a caller.
+-- Assumes nothing.
+use mathlib.Core.Path.{_≡_, refl, sym, ap, subst, _∙_}
+use mathlib.Core.Bool.{Bool, true, false}
+use mathlib.Core.List.{List, [], _++_, append-nil}
+use Prim.Native.Nat.{ℕ}
+use native.Mathlib.Omega.{arith}
+use Rattle.refusal.specs.declared.Refusal.{Refusal}
+use Rattle.refusal.specs.declared.Refusal.the-variants.{MalformedLine}
+use Rattle.refusal.specs.declared.Checked.{Checked}
+use Rattle.refusal.specs.declared.Checked.the-variants.{Passed, Refused}
+use Rattle.refusal.specs.Judge.{Test, checkedOf, checksOf, Says}
+use Rattle.refusal.specs.JudgeLaws.{shown, stopped-by, onward-by, answered, one-answer}
+use Rattle.craft_context.specs.declared.context.CraftContext.{CraftContext}
+use Rattle.craft_context.specs.Limits.{contextTests, ContextIn}
+use Rattle.craft_context.specs.LimitLaws.{context-in}
+use Rattle.context_line.specs.Shape.{lineShaped, numbersOf, readOf, lineTest}
+use Rattle.context_line.specs.Fields.{fitsTest, contextOf, numberTests}
+use Rattle.context_line.specs.Read.{read, lineTests}
+use Rattle.context_line.specs.declared.line.Numbers.{Numbers}
+use Rattle.context_line.specs.declared.fields.Read.{Read}
+use Rattle.context_line.specs.declared.fields.Read.the-variants as R
+
+-- ---- what the code reads a line into, and refusal 12
+
+module _ (line : List ℕ) {r : Numbers} (e : r ≡ readOf line) where
+  read-shape : {t : Bool} → r .shaped ≡ t → lineShaped line ≡ t
+  read-shape s = sym (ap (λ (n : Numbers). n .shaped) e) ∙ s
+
+  pub read-malformed : r .shaped ≡ false → Refused MalformedLine ≡ checkedOf (lineTest line)
+  read-malformed s = rw (read-shape s)
+
+  pub read-passed : r .shaped ≡ true → Passed ≡ checkedOf (lineTest line)
+  read-passed s = rw (read-shape s)
+
+  pub read-numbers : r .shaped ≡ true → r .values ≡ numbersOf line
+  read-numbers s = ap (λ (n : Numbers). n .values) e ∙ rw (read-shape s)
+
+-- ---- what the answer tells a caller
+
+module _ {tests : List Test} {context : CraftContext} where
+  -- the answer goes by what the tests answer
+  module _ {r : Read} (s : Says read tests (R.Context context) r) where
+    when-passed : Passed ≡ checksOf tests → r ≡ R.Context context
+    when-passed p =
+        let a : Says read (tests ++ []) (R.Context context) (R.Context context) = onward-by tests [] p refl (answered refl refl) in
+        one-answer s (rw append-nil at a)
+
+    when-refused : {x : Refusal} → Refused x ≡ checksOf tests → r ≡ R.Refused x
+    when-refused {x} f =
+        let a : Says read (tests ++ []) (R.Context context) (R.Refused x) = stopped-by tests [] f refl in
+        one-answer s (rw append-nil at a)
+
+  -- a context is the one that was meant, and every test passed
+  pub read-context : {c : CraftContext} → Says read tests (R.Context context) (R.Context c) → (c ≡ context) × (Passed ≡ checksOf tests)
+  read-context {c} s = by (checksOf tests) refl
+    where
+      by : (k : Checked) → k ≡ checksOf tests → (c ≡ context) × (Passed ≡ checksOf tests)
+      by Passed e = let same = when-passed s e in (cc, e)
+      by (Refused x) e = let other = when-refused s e in let z : _≡_ {A = ℕ} 0 1 = cc in absurd (omega arith)
+
+  -- a refusal is that of the first test that failed
+  pub read-refused : {x : Refusal} → Says read tests (R.Context context) (R.Refused x) → Refused x ≡ checksOf tests
+  read-refused {x} s = by (checksOf tests) refl
+    where
+      by : (k : Checked) → k ≡ checksOf tests → Refused x ≡ checksOf tests
+      by Passed e = let other = when-passed s e in let z : _≡_ {A = ℕ} 0 1 = cc in absurd (omega arith)
+      by (Refused y) e = let other = when-refused s e in let same : x ≡ y = cc in ap Refused same ∙ e
+
+-- and the context is inside its limits
+inside : (values : List ℕ) {c : CraftContext} → c ≡ contextOf values → Passed ≡ checksOf (numberTests values) → ContextIn c
+inside values e p =
+    let q = shown (fitsTest values) (contextTests (contextOf values)) p refl .1 in
+    subst (λ (x : CraftContext). ContextIn x) (sym e) (context-in (contextOf values) q refl)
+
+pub numbers-inside : (values : List ℕ) {c : CraftContext} → Says read (numberTests values) (R.Context (contextOf values)) (R.Context c) → ContextIn c
+numbers-inside values s = let e = read-context s in inside values (e .0) (e .1)
+
+pub line-inside : (line : List ℕ) {c : CraftContext} → Says read (lineTests line) (R.Context (contextOf (numbersOf line))) (R.Context c) → ContextIn c
+line-inside line s = let e = read-context s in inside (numbersOf line) (e .0) (shown (lineTest line) (numberTests (numbersOf line)) (e .1) refl .1)
