@@ -1,0 +1,15 @@
+pub mod Gaps
+pub mod Words
+pub mod Next
+pub mod WordLaws
+pub mod NextLaws
+pub mod WalkLaws
+pub mod CountLaws
+pub mod First
+pub mod FirstLaws
+pub mod Lines
+pub mod LineLaws
+pub mod Seconds
+pub mod SecondLaws
+pub mod Round
+pub mod Worked
