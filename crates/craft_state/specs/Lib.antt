@@ -1,4 +1,6 @@
 pub mod Limits
 pub mod Start
+pub mod Line
+pub mod LineLaws
 pub mod Inside
 pub mod InsideLaws

@@ -2,7 +2,7 @@
 -- Assumes nothing.
 use mathlib.Core.Path.{refl}
 use mathlib.Core.Bool.{not}
-use mathlib.Core.List.{[], _∷_, _++_}
+use mathlib.Core.List.{List, [], _∷_, _++_}
 use Prim.Native.Nat.{ℕ}
 use lib.Dec.{T}
 use lib.Ieee.{isNan}
@@ -15,11 +15,14 @@ use Rattle.action.specs.Known.{actionTest}
 use Rattle.craft_context.specs.declared.context.CraftContext.{CraftContext}
 use Rattle.craft_state.specs.declared.state.CraftState.{CraftState}
 use Rattle.craft_state.specs.Limits.{givenTests}
+use Rattle.craft_state.specs.Line.{lineOf}
 use Rattle.step.specs.Step.{executeOf}
 use Rattle.moves.specs.declared.mode.Mode.{Mode}
 use Rattle.moves.specs.Moves.{movesOf}
 use Rattle.score.specs.Score.{scoreOf}
 use Rattle.score.specs.Result.{resultOf, Sound}
+use Rattle.crafty.specs.Room.{WritesText}
+use Rattle.crafty.specs.declared.room.Written.{Written}
 use Rattle.crafty.specs.declared.states.Allowed.{Allowed}
 use Rattle.crafty.specs.declared.states.Allowed.the-variants as A
 use Rattle.crafty.specs.declared.states.Stepped.{Stepped}
@@ -86,3 +89,6 @@ HasResult context state mode r = Says resulted (givenTests context state) (J.Res
 
 abbrev pub HasScore : CraftContext → CraftState → Scored → Type 0
 HasScore context state r = Says scored (givenTests context state) (C.Score (scoreOf context state)) r × NumberIn r
+
+abbrev pub HasLine : CraftContext → CraftState → List ℕ → Written → List ℕ → Type 0
+HasLine context state out r after = WritesText (givenTests context state) (lineOf context state) out r after

@@ -50,6 +50,7 @@ pub use states::Allowed;
 pub use states::Judged;
 pub use states::Scored;
 pub use states::Stepped;
+pub use states::display;
 pub use states::moves;
 pub use states::result;
 pub use states::score;

@@ -1,5 +1,7 @@
 // The entries over the states of a craft. Where a craft starts is `CraftState::new`.
-ghost use Rattle.crafty.specs.States.{HasMoves, Steps, HasResult, HasScore};
+ghost use Rattle.crafty.specs.States.{HasMoves, Steps, HasResult, HasScore, HasLine};
+use super::room::Written;
+use super::room::write;
 use action_set::ActionSet;
 use craft_context::CraftContext;
 use craft_state::CraftState;
@@ -78,4 +80,17 @@ pub fn score(context: CraftContext, state: CraftState) -> Scored
         return Scored::Refused(x);
     }
     Scored::Score(score::score(context, state))
+}
+
+// The line of a state: rendered into a room of its own, which is always enough, and then written.
+pub fn display(context: CraftContext, state: CraftState, out: &mut [u8]) -> Written
+    ensures { λ r. ⌜ HasLine context state (now (out .entry)) r (now (out .exit)) ⌝ }
+{
+    let given = state.check(context);
+    if let Checked::Refused(x) = given {
+        return Written::Refused(x);
+    }
+    let mut room = [0u8; 126];
+    let k = craft_state::put_line(context, state, &mut room, 0);
+    write(&room[..k], out)
 }

@@ -113,12 +113,19 @@ module _ {A : Type 0} {kind : Kind A} {answer : A} where
 
 -- the same with a lent room
 module _ {A : Type 0} {kind : Kind A} {answer : A} {out written after : List ℕ} where
+  module _ (tests rest : List Test) {checked : Checked} (e : checked ≡ checksOf tests) where
+    pub stopped-room-by : {x : Refusal} → checked ≡ Refused x → after ≡ out → Writes kind (tests ++ rest) answer out written (kind .refused x) after
+    stopped-room-by s u = record { says = stopped-by tests rest e s; room = u ∙ stops (λ y. out) written rest tests (sym s ∙ e) }
+
+    pub onward-room-by : {r : A} → checked ≡ Passed → Writes kind rest answer out written r after → Writes kind (tests ++ rest) answer out written r after
+    onward-room-by p w = record { says = onward-by tests rest e p (w .says); room = w .room ∙ passes (λ y. out) written rest tests (sym p ∙ e) }
+
   module _ {t : Test} {rest : List Test} {checked : Checked} (e : checked ≡ checkedOf t) where
     pub stopped-room : {x : Refusal} → checked ≡ Refused x → after ≡ out → Writes kind (t ∷ rest) answer out written (kind .refused x) after
-    stopped-room s u = record { says = stopped e s; room = u ∙ stops (λ y. out) written rest (t ∷ []) (sym s ∙ alone t e) }
+    stopped-room s u = stopped-room-by (t ∷ []) rest (alone t e) s u
 
     pub onward-room : {r : A} → checked ≡ Passed → Writes kind rest answer out written r after → Writes kind (t ∷ rest) answer out written r after
-    onward-room p w = record { says = onward e p (w .says); room = w .room ∙ passes (λ y. out) written rest (t ∷ []) (sym p ∙ alone t e) }
+    onward-room p w = onward-room-by (t ∷ []) rest (alone t e) p w
 
   pub answered-room : {r : A} → kind .told r ≡ success → r ≡ answer → after ≡ written → Writes kind [] answer out written r after
   answered-room a e u = record { says = answered a e; room = u ∙ judged-all (λ y. out) written }

@@ -50,7 +50,7 @@ all-known (n ∷ rest) h = by (ltb n actions) (ltb-true n actions) (all-known re
     by true f later h = (f refl, later (le-of-suc-le-suc h))
     by false f later h = absurd (not-suc-le-zero h)
 
-take-known : (list : List ℕ) (k : ℕ) → AllKnown list → AllKnown (take k list)
+pub take-known : (list : List ℕ) (k : ℕ) → AllKnown list → AllKnown (take k list)
 take-known [] zero h = tt
 take-known [] (suc k) h = tt
 take-known (n ∷ rest) zero h = tt

@@ -1,0 +1,97 @@
+-- `transcript::rows::put_rows` meets its contract.
+-- Assumes nothing.
+use mathlib.Core.Path.{_≡_, refl, sym, ap, subst, _∙_}
+use mathlib.Core.List.{List}
+use Prim.Native.Nat.{ℕ, _+_, _*_, _-_, _≤_, _<_}
+use native.Mathlib.Omega.{arith}
+use lib.ListN.{length, drop}
+use Rattle.text.specs.Over.{over}
+use Rattle.text.specs.OverLaws.{over-none}
+use Rattle.craft_state.specs.Inside.{Given}
+use Rattle.moves.specs.MoveLaws.{plain, legal-playable, legal-keeps}
+use Rattle.transcript.specs.Transcript.{rowMost, rowsOf}
+use Rattle.transcript.specs.TranscriptLaws.{Played, next-known, next-legal, rest-played, rows-over, rows-count, rows-end, rows-short}
+use Rattle.transcript.proofs.rows.put_rows.Statement.{statement}
+use Rattle.transcript.proofs.rows.put_rows.Tie as tie
+
+abbrev Inv-loop : tie.InvT-loop
+Inv-loop context part out₀ at state₀ end₀ i₀ out state end i =
+    (i ≤ length part)
+    × Given context state
+    × Played context state (drop i part)
+    × (over out end (rowsOf context state (drop i part)) ≡ over out₀ end₀ (rowsOf context state₀ part))
+    × (end + length (rowsOf context state (drop i part)) ≡ end₀ + length (rowsOf context state₀ part))
+    × (end ≤ end₀ + rowMost * i)
+    × (length out ≡ length out₀)
+
+abbrev μ-loop : tie.MeasureT-loop
+μ-loop context part out₀ at state₀ end₀ i₀ out state end i = length part - i
+
+loop-holds : tie.Need-loop-holds Inv-loop μ-loop
+loop-holds c = let start = c .before .before in (omega arith, start .pre .0, start .pre .1, refl, refl, omega arith, refl)
+
+shared-slice-read-execute : tie.Need-shared-slice-read-execute Inv-loop μ-loop
+shared-slice-read-execute c = omega arith
+
+execute-requires : tie.Need-execute-requires Inv-loop μ-loop
+execute-requires c κs =
+    let l = c .before .before .loop in
+    let h = c .before .loop-test .taken in
+    legal-playable _ (l .state) plain _ (l .inv .1) (next-known _ (l .state) _ h (l .inv .2)) (next-legal _ (l .state) _ h (l .inv .2))
+
+put-row-requires : tie.Need-put-row-requires Inv-loop μ-loop
+put-row-requires c κs = let l = c .before .before .before .before .loop in omega (arith, l .inv .5, l .inv .6, c .before .before .before .loop-test .taken, c .before .before .before .before .before .before .before .pre .2)
+
+add-i : tie.Need-add-i Inv-loop μ-loop
+add-i c = omega arith
+
+loop-less : tie.Need-loop-less Inv-loop μ-loop
+loop-less c = omega arith
+
+loop-again : tie.Need-loop-again Inv-loop μ-loop
+loop-again c =
+    let row = c .before .before in
+    let turn = row .before .before in
+    let l = turn .before .before .before .loop in
+    let h = turn .before .before .loop-test .taken in
+    let e = turn .execute .ensures in
+    let p = row .put-row .ensures .0 in (
+      omega arith,
+      subst (Given _) (sym e) (legal-keeps _ (l .state) plain _ (l .inv .1) (next-known _ (l .state) _ h (l .inv .2)) (next-legal _ (l .state) _ h (l .inv .2))),
+      rest-played _ (l .state) _ h e (l .inv .2),
+      rows-over _ (l .state) _ h e p ∙ l .inv .3,
+      rows-count _ (l .state) _ h e p ∙ l .inv .4,
+      omega (arith, row .put-row .ensures .1, l .inv .5),
+      row .put-row .kept .1 .1 .0 ∙ l .inv .6,
+    )
+
+same-length : tie.Need-same-length Inv-loop μ-loop
+same-length c = c .before .loop .inv .6
+
+returns : tie.Need-returns Inv-loop μ-loop
+returns c =
+    let l = c .before .loop in
+    let start = c .before .before .before .before in
+    let none = rows-end (start .args .context) (l .state) (start .args .part .now) (c .loop-test .left) in (
+      record {
+        next = omega (arith, ap length none, l .inv .4);
+        same = sym (over-none (l .out) (l .end)) ∙ ap (over (l .out) (l .end)) (sym none) ∙ l .inv .3;
+      },
+      omega (arith, ap length none, l .inv .4, rows-short (start .args .context) (start .args .start) (start .args .part .now)),
+    )
+
+pub put-rows-spec : {M : Type 1} → statement M
+put-rows-spec =
+    tie.close
+    (tie.spec
+    Inv-loop
+    μ-loop
+    loop-holds
+    shared-slice-read-execute
+    execute-requires
+    put-row-requires
+    add-i
+    loop-less
+    loop-again
+    same-length
+    returns)
