@@ -1,3 +1,4 @@
 pub mod Answer
 pub mod AnswerLaws
 pub mod Numbers
+pub mod Replays

@@ -2,5 +2,7 @@
 // Every function takes any numbers and bytes, and refuses by document 01's numbers; a refusal leaves what was lent as it was.
 mod answer;
 mod numbers;
+mod replays;
 
 pub use answer::CraftyAnswer;
+pub use replays::crafty_replay;
