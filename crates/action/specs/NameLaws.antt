@@ -1,7 +1,7 @@
 -- Laws of names and labels: where they stand among the texts, how long they are, and that a word's key finds its name.
 -- Assumes nothing.
 use mathlib.Core.Path.{_≡_, refl, sym, ap, subst, _∙_}
-use mathlib.Core.Bool.{Bool, true, false}
+use mathlib.Core.Bool.{Bool, true, false, cond}
 use mathlib.Core.List.{List, [], _∷_, _++_}
 use Prim.Native.Nat.{ℕ, zero, suc, _+_, _≤_, _<_}
 use native.Mathlib.Nat.{zero-add, add-zero, suc-add, add-suc}
@@ -101,6 +101,20 @@ is-action F.Nothing n t = absurd t
 own-name : (n : ℕ) → n < actions → F.Action n ≡ foundOf (nameOf n)
 unfolding actionOf nameOf foundFrom foundOf
 own-name n h = is-action (foundOf (nameOf n)) n (below-at (λ n. isAction (foundOf (nameOf n)) n) actions n h tt)
+
+-- what is found is an action
+found-below : (left k : ℕ) (word : List ℕ) {n : ℕ} → foundFrom left k word ≡ F.Action n → n < k + left
+unfolding foundFrom
+found-below zero k word e = let z : _≡_ {A = ℕ} 0 1 = cc in absurd (omega arith)
+found-below (suc left) k word {n} e = by (same (nameOf k) word) (found-below left (suc k) word) e
+  where
+    by : (b : Bool) → (foundFrom left (suc k) word ≡ F.Action n → n < suc k + left) → cond b (F.Action k) (foundFrom left (suc k) word) ≡ F.Action n → n < k + suc left
+    by true later e = let m : k ≡ n = cc in omega arith
+    by false later e = omega (arith, later e)
+
+pub found-known : (word : List ℕ) {n : ℕ} → foundOf word ≡ F.Action n → n < actions
+unfolding foundOf
+found-known word e = found-below actions 0 word e
 
 -- ---- what `from_name` answers, by how far it came
 

@@ -1,6 +1,6 @@
 -- The texts of an action: name, label and macro text, and the action that a name names.
 -- Assumes nothing.
-use mathlib.Core.Bool.{cond}
+use mathlib.Core.Bool.{Bool, true, false, cond}
 use mathlib.Core.List.{List, [], _∷_, _++_}
 use Prim.Native.Nat.{ℕ, zero, suc, _+_}
 use Rattle.text.specs.Bytes.{bytes}
@@ -44,3 +44,7 @@ foundFrom (suc left) k word = cond (same (nameOf k) word) (F.Action k) (foundFro
 -- the action whose name the word is
 unfoldable pub foundOf : List ℕ → Found
 foundOf word = foundFrom actions 0 word
+
+abbrev pub isFound : Found → Bool
+isFound (F.Action n) = true
+isFound F.Nothing = false

@@ -2,7 +2,7 @@
 -- Assumes nothing.
 use mathlib.Core.Path.{_≡_, refl, sym, ap, subst, _∙_}
 use mathlib.Core.Bool.{Bool, true, false}
-use mathlib.Core.List.{List, [], _++_, append-nil}
+use mathlib.Core.List.{List}
 use Prim.Native.Nat.{ℕ}
 use native.Mathlib.Omega.{arith}
 use Rattle.refusal.specs.declared.Refusal.{Refusal}
@@ -10,7 +10,7 @@ use Rattle.refusal.specs.declared.Refusal.the-variants.{MalformedLine}
 use Rattle.refusal.specs.declared.Checked.{Checked}
 use Rattle.refusal.specs.declared.Checked.the-variants.{Passed, Refused}
 use Rattle.refusal.specs.Judge.{Test, checkedOf, checksOf, Says}
-use Rattle.refusal.specs.JudgeLaws.{shown, stopped-by, onward-by, answered, one-answer}
+use Rattle.refusal.specs.JudgeLaws.{judged-passed, judged-refused, shown}
 use Rattle.craft_context.specs.declared.context.CraftContext.{CraftContext}
 use Rattle.craft_context.specs.Limits.{contextTests, ContextIn}
 use Rattle.craft_context.specs.LimitLaws.{context-in}
@@ -42,14 +42,10 @@ module _ {tests : List Test} {context : CraftContext} where
   -- the answer goes by what the tests answer
   module _ {r : Read} (s : Says read tests (R.Context context) r) where
     when-passed : Passed ≡ checksOf tests → r ≡ R.Context context
-    when-passed p =
-        let a : Says read (tests ++ []) (R.Context context) (R.Context context) = onward-by tests [] p refl (answered refl refl) in
-        one-answer s (rw append-nil at a)
+    when-passed p = s .same ∙ sym (judged-passed R.Refused (R.Context context) tests p)
 
     when-refused : {x : Refusal} → Refused x ≡ checksOf tests → r ≡ R.Refused x
-    when-refused {x} f =
-        let a : Says read (tests ++ []) (R.Context context) (R.Refused x) = stopped-by tests [] f refl in
-        one-answer s (rw append-nil at a)
+    when-refused f = s .same ∙ sym (judged-refused R.Refused (R.Context context) tests f)
 
   -- a context is the one that was meant, and every test passed
   pub read-context : {c : CraftContext} → Says read tests (R.Context context) (R.Context c) → (c ≡ context) × (Passed ≡ checksOf tests)

@@ -1,7 +1,6 @@
 -- What each public entry over single actions answers, for any number or bytes: its tests in the order of the refusals, then its answer.
 -- Assumes nothing.
 use mathlib.Core.Path.{refl}
-use mathlib.Core.Bool.{Bool, true, false}
 use mathlib.Core.List.{List, [], _∷_}
 use Prim.Native.Nat.{ℕ}
 use Rattle.refusal.specs.declared.Report.{Report}
@@ -16,7 +15,7 @@ use Rattle.action.specs.Known.{actionTest}
 use Rattle.action.specs.Table.{attributesOf}
 use Rattle.action.specs.Price.{chargedOf}
 use Rattle.action.specs.Wait.{waitOf}
-use Rattle.action.specs.Names.{textOf, foundOf}
+use Rattle.action.specs.Names.{textOf, foundOf, isFound}
 use Rattle.crafty.specs.Room.{WritesText}
 use Rattle.crafty.specs.declared.room.Written.{Written}
 use Rattle.crafty.specs.declared.actions.Attributed.{Attributed}
@@ -72,10 +71,6 @@ HasWait n r = Says timed (actionTest n ∷ []) (T.Seconds (waitOf (attributesOf 
 -- its name, its label or its macro text
 abbrev pub HasText : Text → ℕ → List ℕ → Written → List ℕ → Type 0
 HasText which n out r after = WritesText (actionTest n ∷ []) (textOf which n) out r after
-
-abbrev isFound : Found → Bool
-isFound (F.Action n) = true
-isFound F.Nothing = false
 
 abbrev numberIn : Found → ℕ
 numberIn (F.Action n) = n

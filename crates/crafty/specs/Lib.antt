@@ -2,3 +2,4 @@ pub mod Room
 pub mod Actions
 pub mod States
 pub mod Replays
+pub mod Lists

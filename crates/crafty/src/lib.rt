@@ -1,6 +1,7 @@
 // The public face of the engine. Every entry takes any numbers and bytes, and refuses what is outside the limits by document 01's numbers.
 // The entries over sets and contexts are the methods of `ActionSet` and `CraftContext`; a craft starts by `CraftState::new`.
 mod actions;
+mod lists;
 mod replays;
 mod room;
 mod states;
@@ -36,6 +37,10 @@ pub use craft_state::CraftState;
 pub use craft_state::Last;
 pub use craft_state::Perfection;
 pub use craft_state::Started;
+pub use lists::Lasting;
+pub use lists::macro_time;
+pub use lists::read_list;
+pub use lists::write_list;
 pub use moves::Mode;
 pub use refusal::Also;
 pub use refusal::Checked;

@@ -3,7 +3,7 @@ ghost use Rattle.crafty.specs.Room.{Fits};
 use refusal::Checked;
 use refusal::Refusal;
 
-// How many bytes were written, or a refusal.
+// How many bytes were written, where a list has one for each action, or a refusal.
 pub enum Written {
     Length(usize),
     Refused(Refusal),

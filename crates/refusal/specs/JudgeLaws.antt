@@ -2,7 +2,7 @@
 -- Assumes nothing.
 use mathlib.Core.Path.{_≡_, refl, sym, ap, _∙_}
 use mathlib.Core.Bool.{Bool, true, false, cond}
-use mathlib.Core.List.{List, [], _∷_, _++_}
+use mathlib.Core.List.{List, [], _∷_, _++_, append-nil}
 use Prim.Native.Nat.{ℕ, _≤_}
 use native.Mathlib.Omega.{arith}
 use borrow.Author.Tests.{leb-true}
@@ -43,6 +43,14 @@ module _ {A : Type 0} (refused : Refusal → A) (answer : A) (rest : List Test) 
 judged-all : {A : Type 0} (refused : Refusal → A) (answer : A) → answer ≡ judged refused answer []
 unfolding judged
 judged-all refused answer = refl
+
+-- what tests answer decides every answer by them
+module _ {A : Type 0} (refused : Refusal → A) (answer : A) (tests : List Test) where
+  pub judged-passed : Passed ≡ checksOf tests → answer ≡ judged refused answer tests
+  judged-passed p = judged-all refused answer ∙ passes refused answer [] tests p ∙ rw append-nil
+
+  pub judged-refused : {x : Refusal} → Refused x ≡ checksOf tests → refused x ≡ judged refused answer tests
+  judged-refused f = stops refused answer [] tests f ∙ rw append-nil
 
 -- one test alone
 pub alone : (t : Test) {checked : Checked} → checked ≡ checkedOf t → checked ≡ checksOf (t ∷ [])

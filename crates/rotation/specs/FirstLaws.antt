@@ -11,11 +11,11 @@ use lib.ListN.{length, take, drop, getD, length-append, length-take, length-drop
 use lib.Seq.{split-at, take-suc}
 use Rattle.laws.specs.Tests.{true-false, either, both}
 use Rattle.laws.specs.Front.{front}
-use Rattle.action.specs.Names.{foundOf}
+use Rattle.action.specs.Names.{foundOf, isFound}
 use Rattle.action.specs.declared.names.Found.{Found}
 use Rattle.action.specs.declared.names.Found.the-variants.{Action, Nothing}
 use Rattle.rotation.specs.Gaps.{gap, letter}
-use Rattle.rotation.specs.Words.{Word, ended, wordsFrom, wordsOf, isFound, allFound, firstUnknown, wordsKnown, unknownAt}
+use Rattle.rotation.specs.Words.{Word, ended, wordsFrom, wordsOf, allFound, firstUnknown, wordsKnown, unknownAt}
 use Rattle.rotation.specs.WordLaws.{words-cases, words-gap, words-letter, words-end, one-word, words-seam}
 use Rattle.rotation.specs.First.{wordAt, FirstUnknown}
 

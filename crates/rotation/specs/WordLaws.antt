@@ -7,11 +7,14 @@ use mathlib.Core.List.{List, [], _∷_, _++_, append-nil, append-assoc}
 use Prim.Native.Nat.{ℕ, suc, _+_, _≤_, _<_}
 use native.Mathlib.Nat.{add-zero, not-suc-le-zero}
 use native.Mathlib.Omega.{arith}
+use borrow.Author.Tests.{lt-ltb}
 use lib.ListN.{length, take, drop, getD, length-append}
 use lib.Seq.{length-take-le}
 use Rattle.laws.specs.Tests.{either}
 use Rattle.laws.specs.Front.{front, front-le}
+use Rattle.action.specs.Known.{actions, knownFront}
 use Rattle.action.specs.Names.{foundOf}
+use Rattle.action.specs.NameLaws.{found-known}
 use Rattle.action.specs.declared.names.Found.{Found}
 use Rattle.action.specs.declared.names.Found.the-variants.{Action, Nothing}
 use Rattle.rotation.specs.Gaps.{gap, letter}
@@ -121,3 +124,27 @@ words-most (b ∷ text) at word =
 pub actions-most : (text : List ℕ) → length (actionsIn text) ≤ length text
 unfolding wordsOf actionsIn
 actions-most text = omega (arith, words-most text 0 [])
+
+-- ---- what words name are known actions
+
+abbrev Known : List Word → Type 0
+Known words = length (numbers words) ≤ knownFront (numbers words)
+
+ended-known : (at : ℕ) (word : List ℕ) (more : List Word) → Known more → Known (ended at word more)
+unfolding knownFront
+ended-known at [] more h = h
+ended-known at (b ∷ word) more h = by (foundOf (b ∷ word)) refl
+  where
+    by : (f : Found) → foundOf (b ∷ word) ≡ f → length (listed f (numbers more)) ≤ knownFront (listed f (numbers more))
+    by (Action n) e = simp (lt-ltb n actions (found-known (b ∷ word) e)) (omega arith)
+    by Nothing e = h
+
+from-known : (at : ℕ) (word text : List ℕ) → Known (wordsFrom at word text)
+unfolding wordsFrom knownFront
+from-known at word [] = ended-known at word [] (omega arith)
+from-known at word (b ∷ text) =
+    words-cases Known at word b text (λ e. ended-known at word _ (from-known (at + length word + 1) [] text)) (λ e. from-known at (word ++ (b ∷ [])) text)
+
+pub actions-known : (text : List ℕ) → length (actionsIn text) ≤ knownFront (actionsIn text)
+unfolding actionsIn wordsOf
+actions-known text = from-known 0 [] text

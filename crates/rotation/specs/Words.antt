@@ -6,7 +6,7 @@ use Prim.Native.Nat.{ℕ, _+_}
 use lib.ListN.{length}
 use Rattle.refusal.specs.Judge.{Test}
 use Rattle.refusal.specs.declared.Refusal.the-variants.{UnknownWord}
-use Rattle.action.specs.Names.{foundOf}
+use Rattle.action.specs.Names.{foundOf, isFound}
 use Rattle.action.specs.declared.names.Found.{Found}
 use Rattle.action.specs.declared.names.Found.the-variants.{Action, Nothing}
 use Rattle.rotation.specs.Gaps.{gap}
@@ -34,10 +34,6 @@ unfoldable pub wordsOf : List ℕ → List Word
 wordsOf text = wordsFrom 0 [] text
 
 -- ---- the actions that they name
-
-abbrev pub isFound : Found → Bool
-isFound (Action n) = true
-isFound Nothing = false
 
 abbrev pub listed : Found → List ℕ → List ℕ
 listed (Action n) rest = n ∷ rest

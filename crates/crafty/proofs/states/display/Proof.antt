@@ -25,7 +25,7 @@ display-spec =
     (λ c. search needs)
     (λ c.
     let k = c .before .before .before in
-    stopped-room-by (givenTests (k .before .args .context) (k .before .args .state)) (roomTest _ (length (lineOf (k .before .args .context) (k .before .args .state))) ∷ []) (k .check .ensures) (c .before .given .given .1) refl)
+    stopped-room-by (givenTests (k .before .before .args .context) (k .before .before .args .state)) (roomTest (length (k .before .before .args .out .now)) (length (lineOf (k .before .before .args .context) (k .before .before .args .state))) ∷ []) (k .check .ensures) (c .before .given .given .1) refl)
     (λ c. search needs)
     (λ c. search needs)
     (λ c κs. search needs)
