@@ -12,6 +12,11 @@ is_native() {
     [ "$(uname -m)" = x86_64 ]
 }
 
+# For the machine's own headers, and where they serve for its own programs.
+has_compiler() {
+    command -v cc > /dev/null
+}
+
 build_archive() {
     mkdir -p "$built"
     (cd "$root" && rt staticlib crafty_c) > "$built/archive.log" 2>&1 || { cat "$built/archive.log" >&2; exit 1; }

@@ -12,14 +12,16 @@ use Rattle.refusal.specs.declared.Report.{Report}
 use Rattle.refusal.specs.Report.{reportOf}
 use Rattle.refusal.specs.Judge.{Kind}
 use Rattle.crafty.specs.declared.room.Written.{Written}
-use Rattle.crafty.specs.declared.room.Written.the-variants.{Length, Refused}
+use Rattle.crafty.specs.declared.room.Written.the-variants as W
+use Rattle.crafty.specs.declared.lists.Lasting.{Lasting}
+use Rattle.crafty.specs.declared.lists.Lasting.the-variants as L
 use Rattle.crafty_c.specs.declared.answer.CraftyAnswer.{CraftyAnswer}
 
 abbrev pub valueIn : Also → ℕ
 valueIn Nothing = 0
 valueIn (Value value) = value
 
--- a success, and how much was written
+-- a success, and how much was written, or a list's seconds
 abbrev pub doneOf : ℕ → CraftyAnswer
 doneOf value = record { number = 0; value = value }
 
@@ -27,8 +29,12 @@ abbrev pub refusedOf : Refusal → CraftyAnswer
 refusedOf x = record { number = reportOf x .0; value = valueIn (reportOf x .1) }
 
 abbrev pub toldOf : Written → CraftyAnswer
-toldOf (Length length) = doneOf length
-toldOf (Refused x) = refusedOf x
+toldOf (W.Length length) = doneOf length
+toldOf (W.Refused x) = refusedOf x
+
+abbrev pub lastedOf : Lasting → CraftyAnswer
+lastedOf (L.Seconds seconds) = doneOf seconds
+lastedOf (L.Refused x) = refusedOf x
 
 -- ---- the way back: document 01's number and values, read off an answer
 

@@ -1,4 +1,4 @@
--- An entry's answer, told in a number and a value: what was said of the one is so of the other.
+-- An entry's answer, told in a number and a value: what is so of the one is so of the other.
 -- Assumes nothing.
 use mathlib.Core.Path.{_≡_, refl, ap, _∙_}
 use mathlib.Core.Bool.{Bool, true, false, cond}
@@ -7,26 +7,42 @@ use Prim.Native.Nat.{ℕ}
 use Rattle.refusal.specs.declared.Refusal.{Refusal}
 use Rattle.refusal.specs.Judge.{Kind, Test, judged, Says, Writes}
 use Rattle.crafty.specs.declared.room.Written.{Written}
-use Rattle.crafty.specs.declared.room.Written.the-variants.{Length, Refused}
+use Rattle.crafty.specs.declared.room.Written.the-variants as W
+use Rattle.crafty.specs.declared.lists.Lasting.{Lasting}
+use Rattle.crafty.specs.declared.lists.Lasting.the-variants as L
 use Rattle.crafty.specs.Room.{written}
-use Rattle.crafty_c.specs.Answer.{doneOf, toldOf, answered}
+use Rattle.crafty.specs.Lists.{lasting}
+use Rattle.crafty_c.specs.declared.answer.CraftyAnswer.{CraftyAnswer}
+use Rattle.crafty_c.specs.Answer.{doneOf, refusedOf, toldOf, lastedOf, reportIn, report-in, answered}
 
--- what is made of an answer is made of each of its cases
-judged-as : {A B : Type 0} (f : A → B) (refused : Refusal → A) (answer : A) (tests : List Test) → f (judged refused answer tests) ≡ judged (λ x. f (refused x)) (f answer) tests
-unfolding judged
-judged-as f refused answer [] = refl
-judged-as f refused answer (t ∷ rest) = by (t .passed) (judged-as f refused answer rest)
-  where
-    by : (b : Bool) → f (judged refused answer rest) ≡ judged (λ x. f (refused x)) (f answer) rest
-        → f (cond b (judged refused answer rest) (refused (t .otherwise))) ≡ cond b (judged (λ x. f (refused x)) (f answer) rest) (f (refused (t .otherwise)))
-    by true e = e
-    by false e = refl
+-- ---- any kind of answer that is told so
 
-number-told : (r : Written) → answered .told (toldOf r) ≡ written .told r
-number-told (Length length) = refl
-number-told (Refused x) = answered .refusing x
+module _ {A : Type 0} (kind : Kind A) (tell : A → CraftyAnswer) (refusing : (x : Refusal) → tell (kind .refused x) ≡ refusedOf x) (telling : (r : A) → reportIn (tell r) ≡ kind .told r) where
+  judged-told : (answer : A) (tests : List Test) → tell (judged (kind .refused) answer tests) ≡ judged refusedOf (tell answer) tests
+  unfolding judged
+  judged-told answer [] = refl
+  judged-told answer (t ∷ rest) = by (t .passed) (judged-told answer rest)
+    where
+      by : (b : Bool) → tell (judged (kind .refused) answer rest) ≡ judged refusedOf (tell answer) rest
+          → tell (cond b (judged (kind .refused) answer rest) (kind .refused (t .otherwise))) ≡ cond b (judged refusedOf (tell answer) rest) (refusedOf (t .otherwise))
+      by true e = e
+      by false e = refusing (t .otherwise)
 
-pub writes-told : {tests : List Test} {k : ℕ} {out after text : List ℕ} {r : Written} → Writes written tests (Length k) out text r after → Writes answered tests (doneOf k) out text (toldOf r) after
-writes-told {tests} {k} {r = r} w =
-    let says : Says answered tests (doneOf k) (toldOf r) = record { number = number-told r ∙ w .says .number; same = ap toldOf (w .says .same) ∙ judged-as toldOf Refused (Length k) tests } in
-    record { says = says; room = w .room }
+  says-told : {tests : List Test} {answer r : A} → Says kind tests answer r → Says answered tests (tell answer) (tell r)
+  says-told {tests} {answer} {r} s = record { number = telling r ∙ s .number; same = ap tell (s .same) ∙ judged-told answer tests }
+
+-- ---- what was written, and a time
+
+written-number : (r : Written) → reportIn (toldOf r) ≡ written .told r
+written-number (W.Length length) = refl
+written-number (W.Refused x) = report-in x
+
+pub writes-told : {tests : List Test} {k : ℕ} {out after text : List ℕ} {r : Written} → Writes written tests (W.Length k) out text r after → Writes answered tests (doneOf k) out text (toldOf r) after
+writes-told w = record { says = says-told written toldOf (λ x. refl) written-number (w .says); room = w .room }
+
+lasting-number : (r : Lasting) → reportIn (lastedOf r) ≡ lasting .told r
+lasting-number (L.Seconds seconds) = refl
+lasting-number (L.Refused x) = report-in x
+
+pub says-lasted : {tests : List Test} {s : ℕ} {r : Lasting} → Says lasting tests (L.Seconds s) r → Says answered tests (doneOf s) (lastedOf r)
+says-lasted s = says-told lasting lastedOf (λ x. refl) lasting-number s

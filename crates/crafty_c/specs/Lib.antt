@@ -2,3 +2,4 @@ pub mod Answer
 pub mod AnswerLaws
 pub mod Numbers
 pub mod Replays
+pub mod Texts

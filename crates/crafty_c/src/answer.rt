@@ -1,11 +1,13 @@
 // What every function answers.
 ghost use mathlib.Core.Path.{_≡_};
-ghost use Rattle.crafty_c.specs.Answer.{valueIn, doneOf, refusedOf, toldOf};
+ghost use Rattle.crafty_c.specs.Answer.{valueIn, doneOf, refusedOf, toldOf, lastedOf};
+use crafty::Lasting;
 use crafty::Written;
 use refusal::Also;
 use refusal::Refusal;
 
-// Document 01's number, 0 for success, and a value: what also comes back with a refusal, or of a success how much was written.
+// Document 01's number, 0 for success, and a value: what also comes back with a refusal, or of a success how much was written,
+// or a list's seconds.
 #[repr(C)]
 pub struct CraftyAnswer {
     pub number: u32,
@@ -46,5 +48,15 @@ pub fn told(written: Written) -> CraftyAnswer
     match written {
         Written::Length(length) => done(length),
         Written::Refused(x) => refused(x),
+    }
+}
+
+// The answer of a list's macro time, whose value is its seconds.
+pub fn lasted(lasting: Lasting) -> CraftyAnswer
+    ensures { λ r. ⌜ r ≡ lastedOf lasting ⌝ }
+{
+    match lasting {
+        Lasting::Seconds(seconds) => done(seconds as usize),
+        Lasting::Refused(x) => refused(x),
     }
 }

@@ -3,6 +3,10 @@
 mod answer;
 mod numbers;
 mod replays;
+mod texts;
 
 pub use answer::CraftyAnswer;
 pub use replays::crafty_replay;
+pub use texts::crafty_macro_time;
+pub use texts::crafty_read_list;
+pub use texts::crafty_write_list;

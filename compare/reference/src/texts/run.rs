@@ -5,6 +5,7 @@ use super::call::{room, Call};
 use super::count::Counts;
 use super::generate::Case;
 use super::{fixed, generate, timing};
+use crate::fail;
 use std::io::{self, Read, Write};
 use std::process::{Child, ChildStdin, ChildStdout, Command, Stdio};
 use std::sync::mpsc::sync_channel;
@@ -27,7 +28,7 @@ pub fn compare(seed: u64, count: u64, command: &[&str]) -> io::Result<()> {
     drop(host.stdin);
     let ended = host.process.wait()?;
     if !ended.success() {
-        return Err(io::Error::new(io::ErrorKind::Other, format!("the host: {ended}")));
+        fail(format!("the host ended with {ended}"));
     }
     Ok(())
 }
@@ -59,7 +60,7 @@ fn ask(seed: u64, count: u64, host: Host) -> io::Result<(Counts, Host)> {
     for case in receiver {
         let said = read(&mut stdout, case.answer.room.len())?;
         if said != case.answer {
-            return Err(io::Error::new(io::ErrorKind::Other, difference(&case, &said)));
+            fail(difference(&case, &said));
         }
         counts.add(&case);
     }
