@@ -1,11 +1,13 @@
 -- An entry's answer, told in a number and a value: what is so of the one is so of the other.
 -- Assumes nothing.
-use mathlib.Core.Path.{_≡_, refl, ap, _∙_}
-use mathlib.Core.Bool.{Bool, true, false, cond}
-use mathlib.Core.List.{List, [], _∷_}
+use mathlib.Core.Path.{_≡_, refl, sym, ap, _∙_}
+use mathlib.Core.List.{List}
 use Prim.Native.Nat.{ℕ}
 use Rattle.refusal.specs.declared.Refusal.{Refusal}
-use Rattle.refusal.specs.Judge.{Kind, Test, judged, Says, Writes}
+use Rattle.refusal.specs.declared.Checked.{Checked}
+use Rattle.refusal.specs.declared.Checked.the-variants as C
+use Rattle.refusal.specs.Judge.{Kind, Test, judged, checksOf, Says, Writes}
+use Rattle.refusal.specs.JudgeLaws.{judged-passed, judged-refused}
 use Rattle.crafty.specs.declared.room.Written.{Written}
 use Rattle.crafty.specs.declared.room.Written.the-variants as W
 use Rattle.crafty.specs.declared.lists.Lasting.{Lasting}
@@ -19,14 +21,11 @@ use Rattle.crafty_c.specs.Answer.{doneOf, refusedOf, toldOf, lastedOf, r
 
 module _ {A : Type 0} (kind : Kind A) (tell : A → CraftyAnswer) (refusing : (x : Refusal) → tell (kind .refused x) ≡ refusedOf x) (telling : (r : A) → reportIn (tell r) ≡ kind .told r) where
   judged-told : (answer : A) (tests : List Test) → tell (judged (kind .refused) answer tests) ≡ judged refusedOf (tell answer) tests
-  unfolding judged
-  judged-told answer [] = refl
-  judged-told answer (t ∷ rest) = by (t .passed) (judged-told answer rest)
+  judged-told answer tests = by (checksOf tests) refl
     where
-      by : (b : Bool) → tell (judged (kind .refused) answer rest) ≡ judged refusedOf (tell answer) rest
-          → tell (cond b (judged (kind .refused) answer rest) (kind .refused (t .otherwise))) ≡ cond b (judged refusedOf (tell answer) rest) (refusedOf (t .otherwise))
-      by true e = e
-      by false e = refusing (t .otherwise)
+      by : (c : Checked) → c ≡ checksOf tests → tell (judged (kind .refused) answer tests) ≡ judged refusedOf (tell answer) tests
+      by C.Passed e = ap tell (sym (judged-passed (kind .refused) answer tests e)) ∙ judged-passed refusedOf (tell answer) tests e
+      by (C.Refused x) e = ap tell (sym (judged-refused (kind .refused) answer tests e)) ∙ refusing x ∙ judged-refused refusedOf (tell answer) tests e
 
   says-told : {tests : List Test} {answer r : A} → Says kind tests answer r → Says answered tests (tell answer) (tell r)
   says-told {tests} {answer} {r} s = record { number = telling r ∙ s .number; same = ap tell (s .same) ∙ judged-told answer tests }
