@@ -90,7 +90,7 @@ fn flag(b: bool) -> u32
     b as u32
 }
 
-pub fn numbers(report: Replay) -> [u32; 21]
+pub fn numbers(report: Replay) -> [u32; NUMBERS]
     requires { ⌜ Sound (report .result) × (report .executed ≤ stepMost) ⌝ }
     ensures { λ r. ⌜ r ≡ numbersOf report ⌝ }
 {
