@@ -16,7 +16,7 @@ use Rattle.context_line.specs.Shape.{fields}
 abbrev pub wordMost : ℕ
 wordMost = 2 ^ 32 - 1
 
-abbrev byteMost : ℕ
+abbrev pub byteMost : ℕ
 byteMost = 255
 
 abbrev signedMost : ℕ

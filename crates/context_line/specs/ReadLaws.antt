@@ -3,7 +3,7 @@
 use mathlib.Core.Path.{_≡_, refl, sym, ap, subst, _∙_}
 use mathlib.Core.Bool.{Bool, true, false}
 use mathlib.Core.List.{List}
-use Prim.Native.Nat.{ℕ}
+use Prim.Native.Nat.{ℕ, _≤_}
 use native.Mathlib.Omega.{arith}
 use Rattle.refusal.specs.declared.Refusal.{Refusal}
 use Rattle.refusal.specs.declared.Refusal.the-variants.{MalformedLine}
@@ -14,8 +14,10 @@ use Rattle.refusal.specs.JudgeLaws.{judged-passed, judged-refused, shown}
 use Rattle.craft_context.specs.declared.context.CraftContext.{CraftContext}
 use Rattle.craft_context.specs.Limits.{contextTests, ContextIn}
 use Rattle.craft_context.specs.LimitLaws.{context-in}
-use Rattle.context_line.specs.Shape.{lineShaped, numbersOf, readOf, lineTest}
-use Rattle.context_line.specs.Fields.{fitsTest, contextOf, numberTests}
+use Rattle.context_line.specs.Shape.{others, lineShaped, numbersOf, readOf, lineTest}
+use Rattle.context_line.specs.Fields.{byteMost, Fitting, fitsTest, contextOf, numberTests}
+use Rattle.context_line.specs.FieldLaws.{at-most}
+use Rattle.context_line.specs.ShapeLaws.{values-length}
 use Rattle.context_line.specs.Read.{read, lineTests}
 use Rattle.context_line.specs.declared.line.Numbers.{Numbers}
 use Rattle.context_line.specs.declared.fields.Read.{Read}
@@ -63,14 +65,27 @@ module _ {tests : List Test} {context : CraftContext} where
       by Passed e = let other = when-passed s e in let z : _≡_ {A = ℕ} 0 1 = cc in absurd (omega arith)
       by (Refused y) e = let other = when-refused s e in let same : x ≡ y = cc in ap Refused same ∙ e
 
--- and the context is inside its limits
-inside : (values : List ℕ) {c : CraftContext} → c ≡ contextOf values → Passed ≡ checksOf (numberTests values) → ContextIn c
-inside values e p =
-    let q = shown (fitsTest values) (contextTests (contextOf values)) p refl .1 in
-    subst (λ (x : CraftContext). ContextIn x) (sym e) (context-in (contextOf values) q refl)
+-- ---- what tests that passed have shown
 
-pub numbers-inside : (values : List ℕ) {c : CraftContext} → Says read (numberTests values) (R.Context (contextOf values)) (R.Context c) → ContextIn c
-numbers-inside values s = let e = read-context s in inside values (e .0) (e .1)
+pub passed-inside : (values : List ℕ) → Passed ≡ checksOf (numberTests values) → ContextIn (contextOf values)
+passed-inside values p = context-in (contextOf values) (shown (fitsTest values) (contextTests (contextOf values)) p refl .1) refl
 
-pub line-inside : (line : List ℕ) {c : CraftContext} → Says read (lineTests line) (R.Context (contextOf (numbersOf line))) (R.Context c) → ContextIn c
-line-inside line s = let e = read-context s in inside (numbersOf line) (e .0) (shown (lineTest line) (numberTests (numbersOf line)) (e .1) refl .1)
+-- of a whole line: its context is inside the limits, and its step_max is a byte
+pub line-passed : (line : List ℕ) → Passed ≡ checksOf (lineTests line) → ContextIn (contextOf (numbersOf line)) × (contextOf (numbersOf line) .«step_max» ≤ byteMost)
+unfolding contextOf
+line-passed line p =
+    let values = numbersOf line in
+    let q = shown (lineTest line) (numberTests values) p refl .1 in
+    let f : Fitting values = record { count = values-length others line; fits = shown (fitsTest values) (contextTests (contextOf values)) q refl .0 } in
+    (passed-inside values q, at-most f 4 (omega arith) .1)
+
+-- and so is the context of an answer
+module _ {c : CraftContext} where
+  inside : (values : List ℕ) → c ≡ contextOf values → ContextIn (contextOf values) → ContextIn c
+  inside values e i = subst (λ (x : CraftContext). ContextIn x) (sym e) i
+
+  pub numbers-inside : (values : List ℕ) → Says read (numberTests values) (R.Context (contextOf values)) (R.Context c) → ContextIn c
+  numbers-inside values s = let e = read-context s in inside values (e .0) (passed-inside values (e .1))
+
+  pub line-inside : (line : List ℕ) → Says read (lineTests line) (R.Context (contextOf (numbersOf line))) (R.Context c) → ContextIn c
+  line-inside line s = let e = read-context s in inside (numbersOf line) (e .0) (line-passed line (e .1) .0)

@@ -3,3 +3,6 @@ pub mod Actions
 pub mod States
 pub mod Replays
 pub mod Lists
+pub mod ListLaws
+pub mod Program
+pub mod ProgramLaws

@@ -2,6 +2,7 @@
 // The entries over sets and contexts are the methods of `ActionSet` and `CraftContext`; a craft starts by `CraftState::new`.
 mod actions;
 mod lists;
+mod program;
 mod replays;
 mod room;
 mod states;
@@ -42,6 +43,8 @@ pub use lists::macro_time;
 pub use lists::read_list;
 pub use lists::write_list;
 pub use moves::Mode;
+pub use program::replay_output;
+pub use program::replay_text;
 pub use refusal::Also;
 pub use refusal::Checked;
 pub use refusal::Refusal;

@@ -1,1 +1,3 @@
-pub mod Scan
+-- What several proofs share.
+-- Assumes nothing.
+mod Scan

@@ -3,12 +3,15 @@
 use mathlib.Core.Path.{_≡_, refl, sym, _∙_}
 use mathlib.Core.Bool.{Bool, true, false, cond}
 use mathlib.Core.List.{List}
-use Prim.Native.Nat.{ℕ, _+_}
+use Prim.Native.Nat.{ℕ, _+_, _<_}
 use native.Mathlib.Omega.{arith}
-use lib.ListN.{length}
+use lib.ListN.{length, drop, length-take, length-drop}
+use Rattle.laws.specs.Front.{front}
 use Rattle.refusal.specs.Judge.{checkedOf}
 use Rattle.refusal.specs.declared.Checked.the-variants.{Passed, Refused}
 use Rattle.refusal.specs.declared.Refusal.the-variants.{UnknownWord}
+use Rattle.rotation.specs.Gaps.{letter}
+use Rattle.rotation.specs.FirstLaws.{unknown-first}
 use Rattle.rotation.specs.Words.{actionsIn, wordsKnown, unknownAt, wordsTest, countedOf}
 use Rattle.rotation.specs.declared.words.Counted.{Counted}
 use Rattle.rotation.specs.declared.words.Counted.the-variants.{Words, Unknown}
@@ -33,9 +36,18 @@ module _ (text : List ℕ) {counted : Counted} (e : counted ≡ countedOf text) 
     words-pass base = rw words-known
 
   -- one is not
-  pub words-stop : (base : ℕ) {k offset : ℕ} → counted ≡ Unknown k → offset ≡ base + k → Refused (UnknownWord offset) ≡ checkedOf (wordsTest base text)
-  words-stop base {k} {offset} u o = by (wordsKnown text) (sym u ∙ e)
-    where
-      by : (b : Bool) → Unknown k ≡ cond b (Words (length (actionsIn text))) (Unknown (unknownAt text)) → Refused (UnknownWord offset) ≡ cond b Passed (Refused (UnknownWord (base + unknownAt text)))
-      by true f = let z : _≡_ {A = ℕ} 0 1 = cc in absurd (omega arith)
-      by false f = let same : k ≡ unknownAt text = cc in rw (o, same)
+  module _ {k : ℕ} (u : counted ≡ Unknown k) where
+    one-unknown : (wordsKnown text ≡ false) × (k ≡ unknownAt text)
+    one-unknown = by (wordsKnown text) (sym u ∙ e)
+      where
+        by : (b : Bool) → Unknown k ≡ cond b (Words (length (actionsIn text))) (Unknown (unknownAt text)) → (b ≡ false) × (k ≡ unknownAt text)
+        by true f = let z : _≡_ {A = ℕ} 0 1 = cc in absurd (omega arith)
+        by false f = (refl, cc)
+
+    pub words-stop : (base : ℕ) {offset : ℕ} → offset ≡ base + k → Refused (UnknownWord offset) ≡ checkedOf (wordsTest base text)
+    words-stop base o = rw (one-unknown .0, o, one-unknown .1)
+
+    pub stop-within : k < length text
+    stop-within =
+        let first = unknown-first text (one-unknown .0) in
+        omega (arith, first .some, length-take (front letter (drop (unknownAt text) text)) (drop (unknownAt text) text), length-drop (unknownAt text) text, one-unknown .1)

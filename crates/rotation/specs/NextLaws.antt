@@ -1,4 +1,4 @@
--- Laws of what follows a place of a text: it is the first of the words from there on. And the walks over them.
+-- Laws of what follows a place of a text: it is the first of the words from there on.
 -- Assumes nothing.
 use mathlib.Core.Path.{_≡_, refl, sym, ap, subst, _∙_}
 use mathlib.Core.Bool.{Bool, true, false}

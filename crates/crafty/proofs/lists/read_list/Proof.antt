@@ -45,7 +45,7 @@ read-list-spec =
     let r = c .before .before .before in
     let k = r .before in
     (words-known _ (k .before .before .before .count .ensures .0) (k .before .counted2 .given .1), room-shown (room-is r) (c .before .enum-told .given .1)))
-    (λ c. stopped-room (words-stop _ (c .before .before .before .count .ensures .0) 0 (c .before .counted .given .1) (omega arith)) refl refl)
+    (λ c. stopped-room (words-stop _ (c .before .before .before .count .ensures .0) (c .before .counted .given .1) 0 (omega arith)) refl refl)
     (λ c. search needs)
     (λ c.
     let p = c .before .before in

@@ -1,0 +1,84 @@
+-- `crafty::program::replay_text` meets its contract.
+-- Assumes nothing.
+use mathlib.Core.Path.{_≡_, refl}
+use mathlib.Core.List.{List, [], _∷_}
+use Prim.Native.Nat.{ℕ}
+use native.Mathlib.Omega.{arith}
+use lib.ListN.{length, replicate}
+use borrow.Author.Needs.{needs}
+use Rattle.refusal.specs.declared.Checked.the-variants.{Passed}
+use Rattle.refusal.specs.Judge.{Test, checksOf, roomTest}
+use Rattle.refusal.specs.JudgeLaws.{stopped-room-by, onward-room-by}
+use Rattle.text.specs.OverLaws.{Rendered}
+use Rattle.crafty.specs.Room.{fits-as}
+use Rattle.crafty.specs.Program.{inputTests, replayTextOf}
+use Rattle.crafty.specs.ProgramLaws.{input-accepted, input-refused}
+use Rattle.crafty.proofs.program.replay_text.Statement.{statement}
+use Rattle.crafty.proofs.program.replay_text.Tie as tie
+
+abbrev start-of : tie.After-render → tie.Start
+start-of c = c .before .before .before .before
+
+abbrev input-of : tie.After-rendered2 → List ℕ
+input-of c = start-of (c .before .before .before) .args .input .now
+
+-- every test passed, and the text stands in the room
+text : (c : tie.After-rendered2) → (Passed ≡ checksOf (inputTests (input-of c))) × Rendered (replayTextOf (input-of c)) (c .rendered2 .given .0 .0) (c .before .before .before .render .last .1 .0)
+text c = let run = c .before .before .before in input-accepted (input-of c) (replicate 32768 0) (run .render .ensures) (omega arith) (c .rendered2 .given .1)
+
+-- refusal 6 last
+abbrev room-last : tie.After-render → List Test
+room-last c = roomTest (length (start-of c .args .out .now)) (length (replayTextOf (start-of c .args .input .now))) ∷ []
+
+slice-aggregate-render : tie.Need-slice-aggregate-render
+slice-aggregate-render c = search needs
+
+render-requires : tie.Need-render-requires
+render-requires c κs = search needs
+
+enum-known-rendered : tie.Need-enum-known-rendered
+enum-known-rendered c = search needs
+
+enum-known-rendered-2 : tie.Need-enum-known-rendered-2
+enum-known-rendered-2 c = search needs
+
+array-share-prefix-room : tie.Need-array-share-prefix-room
+array-share-prefix-room c = text (c .before) .1 .within
+
+slice-aggregate-write : tie.Need-slice-aggregate-write
+slice-aggregate-write c = text (c .before .before) .1 .count
+
+write-requires : tie.Need-write-requires
+write-requires c κs = search needs
+
+returns : tie.Need-returns
+returns c =
+    let found = c .before in
+    let run = found .before .before .before in
+    let input = start-of run .args .input .now in
+    let stop = input-refused input (replicate 32768 0) (run .render .ensures) (found .rendered .given .1) in
+    stopped-room-by (inputTests input) (room-last run) stop refl refl
+
+same-length : tie.Need-same-length
+same-length c = search needs
+
+returns-2 : tie.Need-returns-2
+returns-2 c =
+    let written = c .before .before in
+    let found = written .before .before .before .before in
+    onward-room-by (inputTests (input-of found)) (room-last (found .before .before .before)) (text found .0) refl (fits-as (text found .1 .same) (written .write .ensures))
+
+pub replay-text-spec : {M : Type 1} → statement M
+replay-text-spec =
+    tie.close
+    (tie.spec
+    slice-aggregate-render
+    render-requires
+    enum-known-rendered
+    enum-known-rendered-2
+    array-share-prefix-room
+    slice-aggregate-write
+    write-requires
+    returns
+    same-length
+    returns-2)

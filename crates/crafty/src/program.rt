@@ -1,0 +1,86 @@
+// The replay program, as functions from bytes to bytes.
+ghost use Prim.Native.Nat.{_+_, _≤_};
+ghost use lib.ListN.{length};
+ghost use Rattle.refusal.specs.Judge.{sizeMost};
+ghost use Rattle.craft_context.specs.Limits.{ContextIn};
+ghost use Rattle.transcript.specs.Transcript.{transcriptMost};
+ghost use Rattle.crafty.specs.Room.{Fits};
+ghost use Rattle.crafty.specs.Program.{RendersWords, Renders, ReplaysText, refusedTextOf, Prints};
+use super::room::Written;
+use super::room::write;
+use context_line::Read;
+use craft_context::CraftContext;
+use refusal::Checked;
+use refusal::Refusal;
+use rotation::Counted;
+
+// A list of words, before which `base` bytes of the input stand, replayed in a context.
+fn render_words(context: CraftContext, words: &[u8], base: usize, room: &mut [u8]) -> Written
+    requires { ⌜ ContextIn context × (base + length (now words) ≤ sizeMost) × (transcriptMost ≤ length (now room)) ⌝ }
+    ensures { λ r. ⌜ RendersWords context base (now (words .entry)) (now (room .entry)) r (now (room .exit)) ⌝ }
+{
+    let counted = rotation::count(words);
+    match counted {
+        Counted::Unknown(offset) => Written::Refused(Refusal::UnknownWord(base + offset)),
+        Counted::Words(_) => {
+            let mut list = [0u8; 65536];
+            let k = rotation::put_words(words, &mut list);
+            Written::Length(transcript::put_transcript(context, &list[..k], room))
+        }
+    }
+}
+
+// The whole input, replayed into a room that is always enough.
+fn render(input: &[u8], room: &mut [u8]) -> Written
+    requires { ⌜ transcriptMost ≤ length (now room) ⌝ }
+    ensures { λ r. ⌜ Renders (now (input .entry)) (now (room .entry)) r (now (room .exit)) ⌝ }
+{
+    let size = refusal::check_size(input.len());
+    if let Checked::Refused(x) = size {
+        return Written::Refused(x);
+    }
+    let end = context_line::line_end(input);
+    if end >= input.len() {
+        return Written::Refused(Refusal::MalformedLine);
+    }
+    let read = context_line::read(&input[..end]);
+    match read {
+        Read::Refused(x) => Written::Refused(x),
+        Read::Context(context) => render_words(context, &input[end + 1..], end + 1, room),
+    }
+}
+
+// The whole program: a context's line and a list, and what their replay prints.
+pub fn replay_text(input: &[u8], out: &mut [u8]) -> Written
+    ensures { λ r. ⌜ ReplaysText (now (input .entry)) (now (out .entry)) r (now (out .exit)) ⌝ }
+{
+    let mut room = [0u8; 32768];
+    let rendered = render(input, &mut room);
+    match rendered {
+        Written::Refused(x) => Written::Refused(x),
+        Written::Length(k) => write(&room[..k], out),
+    }
+}
+
+fn write_refused(x: Refusal, out: &mut [u8]) -> Written
+    ensures { λ r. ⌜ Fits (refusedTextOf x) (now (out .entry)) r (now (out .exit)) ⌝ }
+{
+    let report = x.reported();
+    let mut room = [0u8; 19];
+    let number = text::put(&mut room, 0, b"refused ");
+    let end = text::put_number(&mut room, number, report.0 as u32, 0);
+    let k = text::put_byte(&mut room, end, b'\n');
+    write(&room[..k], out)
+}
+
+// What the program prints for every input: the replay, or the number of a refusal.
+pub fn replay_output(input: &[u8], out: &mut [u8]) -> Written
+    ensures { λ r. ⌜ Prints (now (input .entry)) (now (out .entry)) r (now (out .exit)) ⌝ }
+{
+    let mut room = [0u8; 32768];
+    let rendered = render(input, &mut room);
+    match rendered {
+        Written::Refused(x) => write_refused(x, out),
+        Written::Length(k) => write(&room[..k], out),
+    }
+}

@@ -1,0 +1,16 @@
+// The replay program: reads standard input and writes what `crafty::replay_output` gives for it.
+use crafty::Written;
+use libc::STDIN_FILENO;
+use libc::STDOUT_FILENO;
+
+// One byte more than an input may have, so that a longer one is seen to be.
+fn main() {
+    let mut input = [0u8; 65537];
+    let got = io::read_full(STDIN_FILENO, &mut input);
+    let mut out = [0u8; 32768];
+    let written = crafty::replay_output(&input[..got], &mut out);
+    let Written::Length(k) = written else {
+        return;
+    };
+    io::write_all(STDOUT_FILENO, &out[..k]);
+}
