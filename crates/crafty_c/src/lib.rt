@@ -8,5 +8,7 @@ mod texts;
 pub use answer::CraftyAnswer;
 pub use replays::crafty_replay;
 pub use texts::crafty_macro_time;
+pub use texts::crafty_print;
 pub use texts::crafty_read_list;
+pub use texts::crafty_replay_text;
 pub use texts::crafty_write_list;

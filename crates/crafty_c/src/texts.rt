@@ -1,8 +1,22 @@
-// Lists and the replay program's input as text.
-ghost use Rattle.crafty_c.specs.Texts.{TellsActions, TellsList, TellsSeconds};
+// The replay program's input and lists, as text.
+ghost use Rattle.crafty_c.specs.Texts.{TellsReplay, TellsPrinted, TellsActions, TellsList, TellsSeconds};
 use super::answer::CraftyAnswer;
 use super::answer::lasted;
 use super::answer::told;
+
+#[no_mangle]
+pub extern "C" fn crafty_replay_text(input: &[u8], out: &mut [u8]) -> CraftyAnswer
+    ensures { λ r. ⌜ TellsReplay (now (input .entry)) (now (out .entry)) r (now (out .exit)) ⌝ }
+{
+    told(crafty::replay_text(input, out))
+}
+
+#[no_mangle]
+pub extern "C" fn crafty_print(input: &[u8], out: &mut [u8]) -> CraftyAnswer
+    ensures { λ r. ⌜ TellsPrinted (now (input .entry)) (now (out .entry)) r (now (out .exit)) ⌝ }
+{
+    told(crafty::replay_output(input, out))
+}
 
 #[no_mangle]
 pub extern "C" fn crafty_read_list(text: &[u8], out: &mut [u8]) -> CraftyAnswer
