@@ -1,7 +1,6 @@
-//! What the calls of a run met: how each function answered, the results in the texts, and what became of each damage.
+//! What the calls of a run met: how each function answered, and how each text ended, whole or damaged.
 
 use super::generate::Case;
-use crate::states::result::RESULTS;
 use std::collections::BTreeMap;
 use std::fmt;
 
@@ -14,16 +13,11 @@ pub struct Counts {
 
 impl Counts {
     pub fn add(&mut self, case: &Case) {
-        let answered = answered(case);
-        let name = case.call.function.name();
         self.calls += 1;
         self.bytes += case.answer.room.len() as u64;
-        self.meet(format!("{name} {answered}"));
-        if let Some(damage) = case.damage {
-            self.meet(format!("text with {damage} {answered}"));
-        }
-        if let Some(result) = result(case) {
-            self.meet(format!("{name} prints {result}"));
+        self.meet(answered(case));
+        if let Some(met) = &case.met {
+            self.meet(format!("text, {met}"));
         }
     }
 
@@ -33,23 +27,11 @@ impl Counts {
 }
 
 fn answered(case: &Case) -> String {
+    let name = case.call.function.name();
     match case.answer.number {
-        0 => "answered".to_string(),
-        number => format!("refused {number}"),
+        0 => format!("{name} answered"),
+        number => format!("{name} refused {number}"),
     }
-}
-
-/// The result on the last line of what was written, or the refusal that is printed.
-fn result(case: &Case) -> Option<String> {
-    if case.answer.number != 0 {
-        return None;
-    }
-    let written = case.answer.room.get(..case.answer.value as usize)?;
-    let line = written.strip_suffix(b"\n")?.rsplit(|byte| *byte == b'\n').next()?;
-    let line = std::str::from_utf8(line).ok()?;
-    let is_result = |word: &&str| RESULTS.contains(word) || line.starts_with("refused ");
-    let result = line.split(' ').next().filter(is_result)?;
-    Some(if result == "refused" { line.to_string() } else { result.to_string() })
 }
 
 impl fmt::Display for Counts {

@@ -9,11 +9,11 @@ use crate::replays::{self, Replay};
 use crate::states::fields::ContextNumbers;
 use crafty::Action;
 
-/// A call with a room of so many numbers, what it must answer, and how its text was damaged.
+/// A call, what it must answer in a room, and what became of its text, whole or damaged.
 pub struct Case {
     pub call: Call,
     pub answer: Answer,
-    pub damage: Option<&'static str>,
+    pub met: Option<String>,
 }
 
 /// So many numbers of room, for a call that needs some or is refused.
@@ -24,7 +24,7 @@ const OF_TEXT: u64 = 1 << 31;
 
 impl Case {
     pub fn new(call: Call, told: &Result<Told, Refusal>, room: usize) -> Case {
-        Case { answer: answer(&call, told, room), call, damage: None }
+        Case { answer: answer(&call, told, room), call, met: None }
     }
 }
 
@@ -41,7 +41,7 @@ fn of_replay(random: &mut Random, replay: &Replay) -> Vec<Case> {
     let words = words(random, &list);
     let mut text = line(&replay.context).into_bytes();
     text.extend(words.bytes());
-    let damage = (!random.one_in(3)).then(|| damage(random, &mut text));
+    let damage = if random.one_in(3) { "whole" } else { damage(random, &mut text) };
     let calls = [
         Call::replay(replay.context, replay.mode, &list),
         Call::new(Function::ReadList, words.as_bytes()),
@@ -53,12 +53,25 @@ fn of_replay(random: &mut Random, replay: &Replay) -> Vec<Case> {
     calls.into_iter().map(|call| in_room(random, call, damage)).collect()
 }
 
-fn in_room(random: &mut Random, call: Call, damage: Option<&'static str>) -> Case {
-    let of_text = matches!(call.function, Function::ReplayText | Function::Print);
+fn in_room(random: &mut Random, call: Call, damage: &str) -> Case {
     let told = told(&call);
     let needed = told.as_ref().map_or(REFUSED_NEEDS, |told| told.value);
     let room = room(random, call.function, needed);
-    Case { damage: damage.filter(|_| of_text), ..Case::new(call, &told, room) }
+    let is_text = call.function == Function::ReplayText;
+    let met = is_text.then(|| format!("{damage}: {}", ended(&told)));
+    Case { met, ..Case::new(call, &told, room) }
+}
+
+/// The result on the last line of a text, or its refusal.
+fn ended(told: &Result<Told, Refusal>) -> String {
+    match told {
+        Err(refusal) => format!("refused {}", refusal.number()),
+        Ok(told) => {
+            let text = String::from_utf8_lossy(&told.bytes);
+            let words = text.lines().last().and_then(|line| line.split(' ').next());
+            words.expect("a line of the result").to_string()
+        }
+    }
 }
 
 /// Too short, just enough, or longer.
