@@ -2,7 +2,7 @@
 -- Assumes nothing.
 use mathlib.Core.Bool.{Bool, cond}
 use mathlib.Core.List.{List, [], _∷_, _++_}
-use Prim.Native.Nat.{ℕ, _-_}
+use Prim.Native.Nat.{ℕ, _-_, _^_}
 use lib.Ieee.{binary32, toBits}
 use lib.IntN.{ℤ, pos, negsuc}
 use Rattle.action.specs.declared.price.Combo.{Combo}
@@ -31,10 +31,10 @@ scoreNumber R.MaxStepsFailure = 0
 scoreNumber R.InvalidActionFailure = 0
 scoreNumber R.Continuing = 0
 
--- two's complement: -1 is the greatest number
+-- two's complement: -1 is the greatest number of 32 bits
 abbrev pub wordOf : ℤ → ℕ
 wordOf (pos n) = n
-wordOf (negsuc k) = 4294967295 - k
+wordOf (negsuc k) = 2 ^ 32 - 1 - k
 
 abbrev pub comboNumber : Combo → ℕ
 comboNumber C.Nothing = 0

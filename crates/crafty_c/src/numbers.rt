@@ -16,11 +16,13 @@ use simulator::Replay;
 // How many there are.
 pub const NUMBERS: usize = 21;
 
+const WORD_MOST: u32 = 4294967295;
+
 fn verdict(result: CraftResult) -> u32
     ensures { λ r. ⌜ r ≡ verdictOf result ⌝ }
 {
     match result {
-        CraftResult::Finished(score) => 0,
+        CraftResult::Finished(_) => 0,
         CraftResult::DurabilityFailure => 1,
         CraftResult::MaxStepsFailure => 2,
         CraftResult::InvalidActionFailure => 3,
@@ -47,7 +49,7 @@ fn word(z: i8) -> u32
     ensures { λ r. ⌜ r ≡ wordOf z ⌝ }
 {
     if z < 0 {
-        return 4294967295 - (-1 - z) as u32;
+        return WORD_MOST - (-1 - z) as u32;
     }
     z as u32
 }

@@ -24,27 +24,27 @@ module _ (report : Replay) where
       → perfection ≡ perfectionNumber (report .state .«trained_perfection_active»)
       → last ≡ lastNumber (report .state .action)
       → result
-          ∷ score
-          ∷ report .executed
-          ∷ report .moves .0
-          ∷ report .state .step
-          ∷ report .state .progress
-          ∷ report .state .quality
-          ∷ durability
-          ∷ report .state .cp
-          ∷ combo
-          ∷ flag
-          ∷ perfection
-          ∷ report .state .buffs .«inner_quiet»
-          ∷ report .state .buffs .«waste_not»
-          ∷ report .state .buffs .«waste_not_ii»
-          ∷ report .state .buffs .manipulation
-          ∷ report .state .buffs .«great_strides»
-          ∷ report .state .buffs .innovation
-          ∷ report .state .buffs .veneration
-          ∷ report .state .buffs .«muscle_memory»
-          ∷ last
-          ∷ []
+      ∷ score
+      ∷ report .executed
+      ∷ report .moves .0
+      ∷ report .state .step
+      ∷ report .state .progress
+      ∷ report .state .quality
+      ∷ durability
+      ∷ report .state .cp
+      ∷ combo
+      ∷ flag
+      ∷ perfection
+      ∷ report .state .buffs .«inner_quiet»
+      ∷ report .state .buffs .«waste_not»
+      ∷ report .state .buffs .«waste_not_ii»
+      ∷ report .state .buffs .manipulation
+      ∷ report .state .buffs .«great_strides»
+      ∷ report .state .buffs .innovation
+      ∷ report .state .buffs .veneration
+      ∷ report .state .buffs .«muscle_memory»
+      ∷ last
+      ∷ []
       ≡ numbersOf report
   put-together a b d e f g h = rw (a, b, d, e, f, g, h)
 

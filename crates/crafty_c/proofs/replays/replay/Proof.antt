@@ -5,7 +5,6 @@ use borrow.Author.Needs.{needs}
 use Rattle.refusal.specs.Judge.{Says}
 use Rattle.refusal.specs.JudgeLaws.{stopped-room-by, onward-room-by}
 use Rattle.craft_context.specs.declared.context.CraftContext.{CraftContext}
-use Rattle.context_line.specs.declared.fields.Read.{Read}
 use Rattle.context_line.specs.declared.fields.Read.the-variants as R
 use Rattle.context_line.specs.Fields.{contextOf, numberTests}
 use Rattle.context_line.specs.Read.{read}
@@ -27,7 +26,7 @@ replay-spec =
     (tie.spec
     (λ c κs. search needs)
     (λ c. search needs)
-    (λ c κs. numbers-inside _ (context-read (c .before .before )))
+    (λ c κs. numbers-inside _ (context-read (c .before .before)))
     (λ c. search needs)
     (λ c κs. tt)
     (λ c. search needs)

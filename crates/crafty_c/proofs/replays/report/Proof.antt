@@ -56,10 +56,10 @@ report-spec =
     (λ c κs. (c .before .before .before .before .before .before .before .before .pre, known c))
     (λ c κs. (c .execute-actions .ensures .1, few c))
     (λ c. search needs)
-    (λ c κs. rw (told (c .before .before )) (fits (c .before .before .before .before )))
+    (λ c κs. rw (told (c .before .before)) (fits (c .before .before .before .before)))
     (λ c κs. tt)
     (λ c. search needs)
     (λ c.
     let k = c .before .before .before .before .before .before .before .before in
-    let same = c .before .before .before .put-numbers .ensures ∙ ap (λ (t : List ℕ). over (k .before .before .before .before .before .before .before .before .args .out .now) 0 t) (told (c .before .before .before .before .before .before ) ∙ ap numbersOf (c .before .before .before .before .before .before .before .execute-actions .ensures .0)) in
+    let same = c .before .before .before .put-numbers .ensures ∙ ap (λ (t : List ℕ). over (k .before .before .before .before .before .before .before .before .args .out .now) 0 t) (told (c .before .before .before .before .before .before) ∙ ap numbersOf (c .before .before .before .before .before .before .before .execute-actions .ensures .0)) in
     rw (c .done .ensures) (onward-room (k .before .before .before .before .before .check-list .ensures) (k .before .before .before .enum-told .given .1) (onward-room (k .before .before .check-room .ensures) (k .enum-told2 .given .1) (answered-room refl refl same)))))
