@@ -6,7 +6,7 @@ use Prim.Native.Nat.{ℕ, _+_, _-_, _≤_, _<_}
 use native.Mathlib.Nat.{le-trans}
 use native.Mathlib.Omega.{arith}
 use borrow.Author.Tests.{le-ltb, lt-ltb}
-use lib.ListN.{length, take, drop, length-drop}
+use lib.ListN.{length, take, drop, length-drop, length-append}
 use lib.Seq.{take-all}
 use Rattle.refusal.specs.declared.Refusal.{Refusal}
 use Rattle.refusal.specs.declared.Checked.{Checked}
@@ -14,6 +14,8 @@ use Rattle.refusal.specs.declared.Checked.the-variants as C
 use Rattle.refusal.specs.declared.Refusal.the-variants.{MalformedLine}
 use Rattle.refusal.specs.Judge.{Test, checkedOf, checksOf, Says, Writes, sizeTest}
 use Rattle.refusal.specs.JudgeLaws.{judged-passed, judged-refused, shown, shown-by}
+use Rattle.refusal.specs.Report.{reportOf}
+use Rattle.text.specs.LengthLaws.{decimal-most}
 use Rattle.text.specs.Over.{over}
 use Rattle.text.specs.OverLaws.{Rendered, rendered}
 use Rattle.rotation.specs.Words.{actionsIn, wordsTest}
@@ -27,8 +29,8 @@ use Rattle.context_line.specs.declared.fields.Read.{Read}
 use Rattle.context_line.specs.declared.fields.Read.the-variants as R
 use Rattle.transcript.specs.Transcript.{transcriptMost}
 use Rattle.transcript.specs.TranscriptLaws.{transcript-short}
-use Rattle.crafty.specs.Program.{lineIn, wordsIn, contextIn, endTest, inputTests, replayTextOf, refusedTextOf, printedOf, RendersWords, Renders}
-use Rattle.crafty.specs.Room.{written}
+use Rattle.crafty.specs.Program.{lineIn, wordsIn, contextIn, endTest, inputTests, replayTextOf, refusedTextOf, printedOf, Prints, RendersWords, Renders}
+use Rattle.crafty.specs.Room.{written, fits-length}
 use Rattle.crafty.specs.declared.room.Written.{Written}
 use Rattle.crafty.specs.declared.room.Written.the-variants.{Length, Refused}
 
@@ -121,3 +123,25 @@ module _ (input : List ℕ) where
   pub prints-refused : {x : Refusal} → C.Refused x ≡ checksOf (inputTests input) → refusedTextOf x ≡ printedOf input
   unfolding printedOf
   prints-refused f = judged-refused refusedTextOf (replayTextOf input) (inputTests input) f
+
+-- and it is at most 32,768 bytes, for every input, so that the program is never refused its room
+refused-short : (x : Refusal) → length (refusedTextOf x) ≤ 19
+unfolding refusedTextOf
+refused-short x = simp length-append (omega (arith, decimal-most (reportOf x .0)))
+
+pub printed-fits : (input : List ℕ) → length (printedOf input) ≤ transcriptMost
+printed-fits input = by (checksOf (inputTests input)) refl
+  where
+    by : (c : Checked) → c ≡ checksOf (inputTests input) → length (printedOf input) ≤ transcriptMost
+    by C.Passed e = omega (arith, text-fits input e, ap length (prints-text input e))
+    by (C.Refused x) e = omega (arith, refused-short x, ap length (prints-refused input e))
+
+module _ (input : List ℕ) {out after : List ℕ} {r : Written} (p : Prints input out r after) (h : transcriptMost ≤ length out) where
+  pub printed-whole : r ≡ Length (length (printedOf input))
+  printed-whole = fits-length (printedOf input) (le-trans (printed-fits input) h) p
+
+  pub printed-within : {k : ℕ} → r ≡ Length k → k ≤ length out
+  printed-within {k} e =
+      let same : Length k ≡ Length (length (printedOf input)) = sym e ∙ printed-whole in
+      let count : k ≡ length (printedOf input) = cc in
+      omega (arith, printed-fits input)

@@ -3,7 +3,7 @@ use crafty::Written;
 use libc::STDIN_FILENO;
 use libc::STDOUT_FILENO;
 
-// One byte more than an input may have, so that a longer one is seen to be.
+// The input's room has one byte more than an input may have, so that a longer one is seen to be; that of the output is always enough (`printed-whole`).
 fn main() {
     let mut input = [0u8; 65537];
     let got = io::read_full(STDIN_FILENO, &mut input);
