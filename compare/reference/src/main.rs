@@ -1,13 +1,14 @@
 //! The Rust's side of the comparison: `fixed`, `edges` and `random SEED COUNT KIND..` write cases, `answer`
 //! reads cases from standard input and writes one line for each. Of craft states and replays, whose lines are
 //! wider: `fixed-states`, `random-states SEED FIRST COUNT`, and `count-states`, what they meet; the same of
-//! replays; and of both `fixed-crafts`, and `answer-crafts`. `compare-texts SEED COUNT HOST..` asks a host of the
-//! archive, the command HOST.., for whole crafts as text and numbers.
+//! replays and of displays; and of all three `fixed-crafts`, and `answer-crafts`. `compare-texts SEED COUNT HOST..`
+//! asks a host of the archive, the command HOST.., for whole crafts as text and numbers.
 
 mod actions;
 mod case;
 mod contexts;
 mod crafts;
+mod displays;
 mod edges;
 mod fixed;
 mod formulas;
@@ -27,6 +28,7 @@ use std::io::{self, Read, Write};
 const COMMANDS: &str = "fixed | edges | random SEED COUNT KIND.. | answer \
     | fixed-states | random-states SEED FIRST COUNT | count-states \
     | fixed-replays | random-replays SEED FIRST COUNT | count-replays \
+    | fixed-displays | random-displays SEED FIRST COUNT | count-displays \
     | fixed-crafts | answer-crafts | compare-texts SEED COUNT HOST..";
 
 fn main() -> io::Result<()> {
@@ -51,6 +53,12 @@ fn main() -> io::Result<()> {
             write_lines(replays, replays::write)
         }
         ["count-replays"] => write_counts(replays::read, replays::counts),
+        ["fixed-displays"] => write_lines(displays::fixed().into_iter(), displays::write),
+        ["random-displays", seed, first, count] => {
+            let displays = displays::random(number(seed), number(first), number(count));
+            write_lines(displays, displays::write)
+        }
+        ["count-displays"] => write_counts(displays::read, displays::counts),
         ["fixed-crafts"] => write_lines(crafts::fixed(), crafts::write),
         ["answer-crafts"] => answer_crafts(),
         ["compare-texts", seed, count, ref host @ ..] if !host.is_empty() => {

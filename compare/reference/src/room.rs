@@ -11,7 +11,7 @@ pub fn line(room: u32, answer: Result<String, Refusal>) -> String {
     }
 }
 
-fn fitting(room: usize, text: String) -> Result<String, Refusal> {
+pub fn fitting(room: usize, text: String) -> Result<String, Refusal> {
     if text.len() > room {
         return Err(Refusal::RoomTooShort { needed: text.len() });
     }

@@ -1,9 +1,10 @@
-// Answers the states and replays of compare/ on standard input, a line for each: docs/COMPARISON.md has their form.
+// Answers the states, replays and Display lines of compare/ on standard input, a line for each: docs/COMPARISON.md has their form.
 use libc::STDIN_FILENO;
 use lines::case;
 use lines::say;
 
 mod answer;
+mod displays;
 mod replays;
 mod show;
 mod state;
@@ -19,6 +20,7 @@ const ROOM: usize = 8192;
 fn put_answer(room: &mut [u8], line: &[u8]) -> usize {
     match case::kind(line) {
         23 => replays::answer(room, line),
+        24 => displays::answer(room, line),
         _ => answer::answer(room, line),
     }
 }

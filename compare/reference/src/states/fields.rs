@@ -6,6 +6,8 @@ use crate::formulas::PERFECTIONS;
 use crafty::{Action, ActionSet, Buffs, CraftContext, CraftState};
 
 /// The places of numbers in a line.
+pub const PROGRESS_TARGET: usize = 5;
+pub const QUALITY_TARGET: usize = 7;
 pub const DURABILITY_MAX: usize = 8;
 pub const CP_MAX: usize = 9;
 pub const POOL: usize = 11;
@@ -33,9 +35,9 @@ pub fn context(numbers: &[u32]) -> CraftContext {
         base_progress_factor: numbers[2],
         base_quality_factor: numbers[3],
         step_max: numbers[4] as u8,
-        progress_target: numbers[5],
+        progress_target: numbers[PROGRESS_TARGET],
         starting_quality: numbers[6],
-        quality_target: numbers[7],
+        quality_target: numbers[QUALITY_TARGET],
         durability_max: numbers[DURABILITY_MAX] as i8,
         cp_max: numbers[CP_MAX],
         is_expert: numbers[10] == 1,

@@ -102,7 +102,7 @@ fn varied(middle: &Numbers) -> Vec<Numbers> {
     states
 }
 
-fn with(middle: &Numbers, changes: &[(usize, u32)]) -> Numbers {
+pub fn with(middle: &Numbers, changes: &[(usize, u32)]) -> Numbers {
     let mut numbers = *middle;
     changes.iter().for_each(|(place, value)| numbers[*place] = *value);
     numbers

@@ -12,7 +12,7 @@ pub fn states(seed: u64, first: u64, count: u64) -> impl Iterator<Item = Numbers
     (first..first + count).map(move |number| state(&mut Random::numbered(seed, number)))
 }
 
-fn state(random: &mut Random) -> Numbers {
+pub fn state(random: &mut Random) -> Numbers {
     let context = random_context::context(random);
     let state = if random.one_in(2) {
         random_state::on_the_way(random, &context)

@@ -1,4 +1,4 @@
-//! The line of a state, and what it shares with that of a replay; their layouts stand in docs/COMPARISON.md.
+//! The line of a state, and what it shares with those of a replay and of a Display; their layouts stand in docs/COMPARISON.md.
 
 use crate::case::digits;
 

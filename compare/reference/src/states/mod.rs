@@ -20,5 +20,5 @@ pub mod tally;
 pub use answer::answer;
 pub use count::counts;
 pub use fixed::states as fixed;
-pub use generate::states as random;
+pub use generate::{state as random_one, states as random};
 pub use line::{read, write, Numbers, WIDTH};

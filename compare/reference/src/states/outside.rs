@@ -10,9 +10,9 @@ use crafty::Action;
 const CONTEXT: [(usize, u32); 6] = [
     (2, 200_071),
     (3, 200_071),
-    (5, 1_000_001),
+    (PROGRESS_TARGET, 1_000_001),
     (6, 1_000_001),
-    (7, 1_000_001),
+    (QUALITY_TARGET, 1_000_001),
     (CP_MAX, 1_000_001),
 ];
 /// The last two are -128 and -1.

@@ -1,5 +1,5 @@
 //! Counts of what a run met: of any craft the actions executed, results and combo prices, and beyond them
-//! the rules that decided in states and the lengths of replays.
+//! the rules that decided in states, the lengths of replays, and what Display lines show.
 
 use super::mode::Mode;
 use super::result::{self, RESULTS};
@@ -28,6 +28,8 @@ pub enum Event {
     Illegal(Mode),
     /// The least and the greatest number of actions executed.
     Length(Mode, usize, usize),
+    /// What a Display line shows, or how long its room is.
+    Display(&'static str),
 }
 
 impl Event {
@@ -51,6 +53,7 @@ impl fmt::Display for Event {
             Event::Decided(mode, decision) => write!(out, "{mode} rule {decision}"),
             Event::Illegal(mode) => write!(out, "{mode} stopped by an illegal action"),
             Event::Length(mode, least, most) => write!(out, "{mode} length {least} to {most}"),
+            Event::Display(what) => write!(out, "{what}"),
         }
     }
 }

@@ -62,7 +62,7 @@ cast-put-last : tie.Need-cast-put-last
 cast-put-last c = omega (arith, promise (c .before .before .before .before .before .before .before .before .before .before) .few)
 
 cast-put-last-2 : tie.Need-cast-put-last-2
-cast-put-last-2 c = search needs
+cast-put-last-2 c = let replayed = c .before .before .before .before .before .before .before .before .before .before in omega (arith, promise replayed .few, start-of replayed .pre .2)
 
 put-last-requires : tie.Need-put-last-requires
 put-last-requires c κs =

@@ -1,0 +1,13 @@
+//! Display lines of states, kind 24: their line, the Rust's answers, fixed and random ones, and what a run met.
+
+mod answer;
+mod count;
+mod fixed;
+mod generate;
+mod line;
+
+pub use answer::answer;
+pub use count::counts;
+pub use fixed::displays as fixed;
+pub use generate::displays as random;
+pub use line::{read, write};
