@@ -69,14 +69,18 @@ fn price(action: Action, combo: u32) -> String {
 }
 
 /// The Rust says the wait in its macro text alone.
-fn wait(action: Action) -> String {
+pub fn wait(action: Action) -> usize {
     let text = action.macro_text();
     let (_, end) = text.split_once("<wait.").expect("a macro text has a wait");
-    end.trim_end_matches('>').to_string()
+    end.trim_end_matches('>').parse().expect("a wait is a number")
 }
 
+/// The whole text is the name, so the offset of a word that is none is always 0.
 fn from_name(text: &[u8]) -> Result<u32, Refusal> {
-    let name = std::str::from_utf8(text).map_err(|_| Refusal::UnknownWord)?;
-    let action: Action = name.parse().map_err(|_| Refusal::UnknownWord)?;
+    let action = named(text).ok_or(Refusal::UnknownWord { offset: 0 })?;
     Ok(action as u32)
+}
+
+pub fn named(word: &[u8]) -> Option<Action> {
+    std::str::from_utf8(word).ok()?.parse().ok()
 }

@@ -1,7 +1,8 @@
 //! The Rust's side of the comparison: `fixed`, `edges` and `random SEED COUNT KIND..` write cases, `answer`
 //! reads cases from standard input and writes one line for each. Of craft states and replays, whose lines are
 //! wider: `fixed-states`, `random-states SEED FIRST COUNT`, and `count-states`, what they meet; the same of
-//! replays and of displays; and of all three `fixed-crafts`, and `answer-crafts`.
+//! replays and of displays; and of all three `fixed-crafts`, and `answer-crafts`. `compare-texts SEED COUNT HOST..`
+//! asks a host of the archive, the command HOST.., for whole crafts as text and numbers.
 
 mod actions;
 mod case;
@@ -18,6 +19,7 @@ mod replays;
 mod room;
 mod sets;
 mod states;
+mod texts;
 
 use case::{Case, LAST_KIND, WIDTH};
 use states::tally::Tally;
@@ -27,7 +29,7 @@ const COMMANDS: &str = "fixed | edges | random SEED COUNT KIND.. | answer \
     | fixed-states | random-states SEED FIRST COUNT | count-states \
     | fixed-replays | random-replays SEED FIRST COUNT | count-replays \
     | fixed-displays | random-displays SEED FIRST COUNT | count-displays \
-    | fixed-crafts | answer-crafts";
+    | fixed-crafts | answer-crafts | compare-texts SEED COUNT HOST..";
 
 fn main() -> io::Result<()> {
     let arguments: Vec<String> = std::env::args().skip(1).collect();
@@ -59,6 +61,9 @@ fn main() -> io::Result<()> {
         ["count-displays"] => write_counts(displays::read, displays::counts),
         ["fixed-crafts"] => write_lines(crafts::fixed(), crafts::write),
         ["answer-crafts"] => answer_crafts(),
+        ["compare-texts", seed, count, ref host @ ..] if !host.is_empty() => {
+            texts::compare(number(seed), number(count), host)
+        }
         _ => fail(format!("one of: {COMMANDS}")),
     }
 }

@@ -8,8 +8,10 @@ pub enum Refusal {
     OutsideState,
     UnknownAction { place: usize },
     IllegalMove,
-    UnknownWord,
+    UnknownWord { offset: usize },
     RoomTooShort { needed: usize },
+    MalformedLine,
+    TooLong,
 }
 
 impl Refusal {
@@ -19,16 +21,17 @@ impl Refusal {
             Refusal::OutsideState => 2,
             Refusal::UnknownAction { .. } => 3,
             Refusal::IllegalMove => 4,
-            Refusal::UnknownWord => 5,
+            Refusal::UnknownWord { .. } => 5,
             Refusal::RoomTooShort { .. } => 6,
+            Refusal::MalformedLine => 12,
+            Refusal::TooLong => 13,
         }
     }
 
-    fn also(self) -> Option<usize> {
+    pub fn also(self) -> Option<usize> {
         match self {
             Refusal::UnknownAction { place } => Some(place),
-            // A name is one word, so its offset is always 0.
-            Refusal::UnknownWord => Some(0),
+            Refusal::UnknownWord { offset } => Some(offset),
             Refusal::RoomTooShort { needed } => Some(needed),
             _ => None,
         }

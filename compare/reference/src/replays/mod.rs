@@ -6,7 +6,7 @@ mod fixed;
 mod generate;
 mod line;
 mod random_list;
-mod report;
+pub mod report;
 
 pub use answer::answer;
 pub use count::counts;

@@ -1,0 +1,109 @@
+/* The functions of include/crafty.h for a machine that cannot link the archive: each asks a process of host.c, which
+ * runs under an emulator. Only for tests: a call that fails ends the program, and one thread may call at a time.
+ * HOST is the command of that process, in words for the shell. */
+#include "calls.h"
+
+#include <stdio.h>
+#include <stdlib.h>
+#include <unistd.h>
+
+static FILE *to_host, *from_host;
+
+static void fail(const char *why)
+{
+    fprintf(stderr, "relay: %s\n", why);
+    exit(1);
+}
+
+static void start(void)
+{
+    int asked[2], answered[2];
+    if (pipe(asked) != 0 || pipe(answered) != 0) fail("no pipe");
+    pid_t process = fork();
+    if (process < 0) fail("no process");
+    if (process == 0) {
+        dup2(asked[0], 0);
+        dup2(answered[1], 1);
+        close(asked[1]);
+        close(answered[0]);
+        execl("/bin/sh", "sh", "-c", "exec " HOST, (char *)NULL);
+        fail("no shell");
+    }
+    close(asked[0]);
+    close(answered[1]);
+    to_host = fdopen(asked[1], "w");
+    from_host = fdopen(answered[0], "r");
+    if (to_host == NULL || from_host == NULL) fail("no stream");
+}
+
+static void put(const void *from, size_t bytes)
+{
+    if (fwrite(from, 1, bytes, to_host) != bytes) fail("the host does not read");
+}
+
+static void get(void *to, size_t bytes)
+{
+    if (fread(to, 1, bytes, from_host) != bytes) fail("the host does not answer");
+}
+
+static crafty_answer ask(struct call call, const uint8_t *input, void *room)
+{
+    uint64_t numbers[2];
+    if (to_host == NULL) start();
+    put(&call, sizeof call);
+    put(input, call.input);
+    put(room, call.room);
+    if (fflush(to_host) != 0) fail("the host does not read");
+    get(numbers, sizeof numbers);
+    get(room, call.room);
+    return (crafty_answer){ (uint32_t)numbers[0], numbers[1] };
+}
+
+static crafty_answer ask_plain(enum function function, const uint8_t *input, size_t length, uint8_t *out, size_t room)
+{
+    return ask((struct call){ .function = function, .input = length, .room = room }, input, out);
+}
+
+crafty_answer crafty_replay(
+    uint32_t player_job_level, uint32_t recipe_job_level, uint32_t base_progress_factor, uint32_t base_quality_factor,
+    uint32_t step_max, uint32_t progress_target, uint32_t starting_quality, uint32_t quality_target,
+    uint32_t durability_max, uint32_t cp_max, uint32_t is_expert, uint32_t action_pool, uint32_t player_is_specialist,
+    uint32_t use_manipulation, uint32_t use_delineation, bool strict, const uint8_t *list, size_t list_length,
+    uint32_t *out, size_t out_length)
+{
+    struct call call = {
+        REPLAY,
+        strict,
+        { player_job_level, recipe_job_level, base_progress_factor, base_quality_factor, step_max, progress_target,
+          starting_quality, quality_target, durability_max, cp_max, is_expert, action_pool, player_is_specialist,
+          use_manipulation, use_delineation },
+        list_length,
+        out_length * sizeof *out,
+    };
+    return ask(call, list, out);
+}
+
+crafty_answer crafty_replay_text(const uint8_t *input, size_t input_length, uint8_t *out, size_t out_length)
+{
+    return ask_plain(REPLAY_TEXT, input, input_length, out, out_length);
+}
+
+crafty_answer crafty_print(const uint8_t *input, size_t input_length, uint8_t *out, size_t out_length)
+{
+    return ask_plain(PRINT, input, input_length, out, out_length);
+}
+
+crafty_answer crafty_read_list(const uint8_t *text, size_t text_length, uint8_t *out, size_t out_length)
+{
+    return ask_plain(READ_LIST, text, text_length, out, out_length);
+}
+
+crafty_answer crafty_write_list(const uint8_t *list, size_t list_length, uint8_t *out, size_t out_length)
+{
+    return ask_plain(WRITE_LIST, list, list_length, out, out_length);
+}
+
+crafty_answer crafty_macro_time(const uint8_t *list, size_t list_length)
+{
+    return ask_plain(MACRO_TIME, list, list_length, NULL, 0);
+}

@@ -1,0 +1,96 @@
+//! The functions of include/crafty.h. A slice of Rust keeps all that a host owes of a pointer and a length, and every
+//! function takes any numbers and bytes, so each call is safe.
+
+use crate::Refusal;
+
+#[repr(C)]
+pub struct Answer {
+    number: u32,
+    value: usize,
+}
+
+impl Answer {
+    pub fn told(self) -> Result<usize, Refusal> {
+        Refusal::of_number(self.number, self.value).map_or(Ok(self.value), Err)
+    }
+}
+
+#[link(name = "crafty_c", kind = "static")]
+extern "C" {
+    fn crafty_replay(
+        player_job_level: u32,
+        recipe_job_level: u32,
+        base_progress_factor: u32,
+        base_quality_factor: u32,
+        step_max: u32,
+        progress_target: u32,
+        starting_quality: u32,
+        quality_target: u32,
+        durability_max: u32,
+        cp_max: u32,
+        is_expert: u32,
+        action_pool: u32,
+        player_is_specialist: u32,
+        use_manipulation: u32,
+        use_delineation: u32,
+        strict: bool,
+        list: *const u8,
+        list_length: usize,
+        out: *mut u32,
+        out_length: usize,
+    ) -> Answer;
+    fn crafty_replay_text(
+        input: *const u8,
+        input_length: usize,
+        out: *mut u8,
+        out_length: usize,
+    ) -> Answer;
+    fn crafty_print(
+        input: *const u8,
+        input_length: usize,
+        out: *mut u8,
+        out_length: usize,
+    ) -> Answer;
+    fn crafty_read_list(
+        text: *const u8,
+        text_length: usize,
+        out: *mut u8,
+        out_length: usize,
+    ) -> Answer;
+    fn crafty_write_list(
+        list: *const u8,
+        list_length: usize,
+        out: *mut u8,
+        out_length: usize,
+    ) -> Answer;
+    fn crafty_macro_time(list: *const u8, list_length: usize) -> Answer;
+}
+
+pub fn replay(context: [u32; 15], strict: bool, list: &[u8], out: &mut [u32]) -> Answer {
+    let [a, b, c, d, e, f, g, h, i, j, k, l, m, n, o] = context;
+    let (list, length) = (list.as_ptr(), list.len());
+    let (out, room) = (out.as_mut_ptr(), out.len());
+    unsafe {
+        crafty_replay(a, b, c, d, e, f, g, h, i, j, k, l, m, n, o, strict, list, length, out, room)
+    }
+}
+
+pub fn replay_text(input: &[u8], out: &mut [u8]) -> Answer {
+    unsafe { crafty_replay_text(input.as_ptr(), input.len(), out.as_mut_ptr(), out.len()) }
+}
+
+pub fn print(input: &[u8], out: &mut [u8]) -> Answer {
+    unsafe { crafty_print(input.as_ptr(), input.len(), out.as_mut_ptr(), out.len()) }
+}
+
+pub fn read_list(text: &[u8], out: &mut [u8]) -> Answer {
+    unsafe { crafty_read_list(text.as_ptr(), text.len(), out.as_mut_ptr(), out.len()) }
+}
+
+pub fn write_list(list: &[u8], out: &mut [u8]) -> Answer {
+    unsafe { crafty_write_list(list.as_ptr(), list.len(), out.as_mut_ptr(), out.len()) }
+}
+
+pub fn macro_time(list: &[u8]) -> Answer {
+    unsafe { crafty_macro_time(list.as_ptr(), list.len()) }
+}

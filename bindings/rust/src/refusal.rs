@@ -1,0 +1,67 @@
+//! Why an input is refused.
+
+use std::error::Error;
+use std::fmt;
+
+#[derive(Clone, Copy, Debug, PartialEq, Eq)]
+pub enum Refusal {
+    /// A number of the context is outside its limit.
+    OutsideLimits,
+    /// An action's number is above 30: its first place in the list.
+    UnknownAction { place: usize },
+    /// A word is no action's name: the byte where the first such word starts.
+    UnknownWord { offset: usize },
+    /// Lent room is too short: how much is needed.
+    NoRoom { needed: usize },
+    /// The first line is not fifteen numbers, parted by single spaces.
+    MalformedLine,
+    /// An input, or a list to write as text or to time, is above 65,536 bytes.
+    TooLong,
+}
+
+impl Refusal {
+    /// None for success.
+    pub(crate) fn of_number(number: u32, value: usize) -> Option<Refusal> {
+        match number {
+            0 => None,
+            1 => Some(Refusal::OutsideLimits),
+            3 => Some(Refusal::UnknownAction { place: value }),
+            5 => Some(Refusal::UnknownWord { offset: value }),
+            6 => Some(Refusal::NoRoom { needed: value }),
+            12 => Some(Refusal::MalformedLine),
+            13 => Some(Refusal::TooLong),
+            _ => unreachable!("no function refuses by {number}"),
+        }
+    }
+
+    /// The number that the portal's pages know it by.
+    pub fn number(self) -> u8 {
+        match self {
+            Refusal::OutsideLimits => 1,
+            Refusal::UnknownAction { .. } => 3,
+            Refusal::UnknownWord { .. } => 5,
+            Refusal::NoRoom { .. } => 6,
+            Refusal::MalformedLine => 12,
+            Refusal::TooLong => 13,
+        }
+    }
+}
+
+impl fmt::Display for Refusal {
+    fn fmt(&self, out: &mut fmt::Formatter) -> fmt::Result {
+        match self {
+            Refusal::OutsideLimits => write!(out, "a number of the context is outside its limit"),
+            Refusal::UnknownAction { place } => {
+                write!(out, "no action has the number at place {place}")
+            }
+            Refusal::UnknownWord { offset } => {
+                write!(out, "the word at byte {offset} is no action's name")
+            }
+            Refusal::NoRoom { needed } => write!(out, "room for {needed} is needed"),
+            Refusal::MalformedLine => write!(out, "the first line is not fifteen numbers"),
+            Refusal::TooLong => write!(out, "more than 65,536 bytes"),
+        }
+    }
+}
+
+impl Error for Refusal {}

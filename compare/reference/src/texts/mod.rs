@@ -1,0 +1,16 @@
+//! Whole crafts as text and numbers: what the functions of include/crafty.h answer, by the Rust and by a model of the
+//! scope's paper, held to what a host of the archive says.
+
+mod answer;
+mod call;
+mod count;
+mod damage;
+mod fixed;
+mod generate;
+mod input;
+mod lists;
+mod output;
+mod run;
+mod timing;
+
+pub use run::compare;

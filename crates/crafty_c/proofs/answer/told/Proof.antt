@@ -1,0 +1,16 @@
+-- `crafty_c::answer::told` meets its contract.
+-- Assumes nothing.
+use borrow.Author.Needs.{needs}
+use Rattle.crafty_c.proofs.answer.told.Statement.{statement}
+use Rattle.crafty_c.proofs.answer.told.Tie as tie
+
+pub told-spec : {M : Type 1} → statement M
+told-spec =
+    tie.close
+    (tie.spec
+    (λ c. search needs)
+    (λ c κs. tt)
+    (λ c. search needs)
+    (λ c κs. tt)
+    (λ c. rw (c .before .before .written .given .1) (c .done .ensures))
+    (λ c. rw (c .before .before .written2 .given .1) (c .refused .ensures)))

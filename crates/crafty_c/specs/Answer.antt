@@ -1,0 +1,64 @@
+-- The answer of every function: document 01's number, and one value beside it.
+-- Assumes nothing.
+use mathlib.Core.Path.{_≡_, refl}
+use mathlib.Core.Bool.{Bool, cond, _||_}
+use Prim.Native.Nat.{ℕ}
+use lib.Dec.{eqb}
+use Rattle.refusal.specs.declared.Refusal.{Refusal}
+use Rattle.refusal.specs.declared.Refusal.the-variants as X
+use Rattle.refusal.specs.declared.Also.{Also}
+use Rattle.refusal.specs.declared.Also.the-variants.{Nothing, Value}
+use Rattle.refusal.specs.declared.Report.{Report}
+use Rattle.refusal.specs.Report.{reportOf}
+use Rattle.refusal.specs.Judge.{Kind}
+use Rattle.crafty.specs.declared.room.Written.{Written}
+use Rattle.crafty.specs.declared.room.Written.the-variants as W
+use Rattle.crafty.specs.declared.lists.Lasting.{Lasting}
+use Rattle.crafty.specs.declared.lists.Lasting.the-variants as L
+use Rattle.crafty_c.specs.declared.answer.CraftyAnswer.{CraftyAnswer}
+
+abbrev pub valueIn : Also → ℕ
+valueIn Nothing = 0
+valueIn (Value value) = value
+
+-- a success, and how much was written, or a list's seconds
+abbrev pub doneOf : ℕ → CraftyAnswer
+doneOf value = record { number = 0; value = value }
+
+abbrev pub refusedOf : Refusal → CraftyAnswer
+refusedOf x = record { number = reportOf x .0; value = valueIn (reportOf x .1) }
+
+abbrev pub toldOf : Written → CraftyAnswer
+toldOf (W.Length length) = doneOf length
+toldOf (W.Refused x) = refusedOf x
+
+abbrev pub lastedOf : Lasting → CraftyAnswer
+lastedOf (L.Seconds seconds) = doneOf seconds
+lastedOf (L.Refused x) = refusedOf x
+
+-- ---- the way back: document 01's number and values, read off an answer
+
+-- the refusals with which a value comes back
+abbrev hasValue : ℕ → Bool
+hasValue number = eqb number 3 || eqb number 5 || eqb number 6
+
+abbrev pub reportIn : CraftyAnswer → Report
+reportIn answer = record { 0 = answer .number; 1 = cond (hasValue (answer .number)) (Value (answer .value)) Nothing }
+
+pub report-in : (x : Refusal) → reportIn (refusedOf x) ≡ reportOf x
+report-in X.OutsideLimits = refl
+report-in X.StateOutOfRange = refl
+report-in (X.UnknownAction place) = refl
+report-in X.IllegalAction = refl
+report-in (X.UnknownWord offset) = refl
+report-in (X.NoRoom needed) = refl
+report-in X.UnsoundTree = refl
+report-in X.UnknownNode = refl
+report-in X.NotAbove = refl
+report-in X.BadScore = refl
+report-in X.VisitsFull = refl
+report-in X.MalformedLine = refl
+report-in X.TooLong = refl
+
+abbrev pub answered : Kind CraftyAnswer
+answered = record { told = reportIn; refused = refusedOf; refusing = report-in }

@@ -1,0 +1,5 @@
+pub mod Answer
+pub mod AnswerLaws
+pub mod Numbers
+pub mod Replays
+pub mod Texts

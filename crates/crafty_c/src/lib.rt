@@ -1,0 +1,14 @@
+// The engine for hosts in C and Rust: a static library of functions on numbers and bytes, which include/crafty.h declares.
+// Every function takes any numbers and bytes, and refuses by document 01's numbers; a refusal leaves what was lent as it was.
+mod answer;
+mod numbers;
+mod replays;
+mod texts;
+
+pub use answer::CraftyAnswer;
+pub use replays::crafty_replay;
+pub use texts::crafty_macro_time;
+pub use texts::crafty_print;
+pub use texts::crafty_read_list;
+pub use texts::crafty_replay_text;
+pub use texts::crafty_write_list;

@@ -1,0 +1,120 @@
+/* The crafting-rules engine for hosts in C: the functions of libcrafty_c.a, which `rt staticlib crafty_c` proves and
+ * builds for x86-64 Linux. It keeps nothing between calls, allocates nothing, and any number of threads may call it.
+ * Of C's library it needs memcpy and memset. A call takes up to some 100 KB of stack.
+ *
+ * What the host owes: a pointer and a length are a run of that many bytes or numbers that stays there during the call;
+ * what is lent to be written is used by nobody else meanwhile, and does not overlap what is read. Where the length is 0
+ * nothing is read or written, and the pointer may be null. Beyond that every function takes any numbers and any bytes.
+ *
+ * What the host gets: every function is proved to answer what crates/crafty_c/specs says, for every input. A refusal
+ * leaves all that was lent as it was; a success writes as much as it says, and no byte or number further. */
+#ifndef CRAFTY_H
+#define CRAFTY_H
+
+#include <stdbool.h>
+#include <stddef.h>
+#include <stdint.h>
+
+#ifdef __cplusplus
+extern "C" {
+#endif
+
+/* The answer of every function. `number` is 0 for success, or that of a refusal. `value` is then how much was written
+ * or, with CRAFTY_UNKNOWN_ACTION, CRAFTY_UNKNOWN_WORD and CRAFTY_NO_ROOM, what also comes back; with others it is 0. */
+typedef struct crafty_answer {
+    uint32_t number;
+    size_t value;
+} crafty_answer;
+
+/* The refusals that these functions have. The lowest number comes first, except that 13 and then 12 precede all, and 6
+ * comes last. */
+enum {
+    CRAFTY_SUCCESS = 0,
+    CRAFTY_OUTSIDE_LIMITS = 1, /* a number of the context is outside its limit, or does not fit its field */
+    CRAFTY_UNKNOWN_ACTION = 3, /* an action's number is above 30; value: the first such place in the list, from 0 */
+    CRAFTY_UNKNOWN_WORD = 5,   /* a word is no action's name; value: the byte where the first such word starts */
+    CRAFTY_NO_ROOM = 6,        /* what was lent is too short; value: how many bytes or numbers are needed */
+    CRAFTY_MALFORMED_LINE = 12, /* the first line is not fifteen numbers, parted by single spaces */
+    CRAFTY_TOO_LONG = 13       /* an input, or a list to write as text or to time, is above 65,536 bytes */
+};
+
+/* How a replay ended. */
+enum {
+    CRAFTY_FINISHED = 0,
+    CRAFTY_DURABILITY_FAILURE = 1,
+    CRAFTY_MAX_STEPS_FAILURE = 2,
+    CRAFTY_INVALID_ACTION_FAILURE = 3, /* no move is left, or an action was not among the moves */
+    CRAFTY_CONTINUING = 4              /* the list ended first */
+};
+
+/* The places of the numbers that crafty_replay writes. */
+enum {
+    CRAFTY_RESULT,              /* how the replay ended, as above */
+    CRAFTY_SCORE,               /* the bits of the score, a 32-bit float; 0 unless finished */
+    CRAFTY_EXECUTED,            /* how many actions were executed: the longest leading part that is legal */
+    CRAFTY_MOVES,               /* the moves of the state, bit n for action n */
+    CRAFTY_STEP,                /* the state where the replay stopped, from here on */
+    CRAFTY_PROGRESS,
+    CRAFTY_QUALITY,
+    CRAFTY_DURABILITY,          /* may be negative: two's complement */
+    CRAFTY_CP,
+    CRAFTY_COMBO,               /* 0 none, 1 BasicTouch, 2 StandardTouch, 3 RefinedTouch, 4 Observe */
+    CRAFTY_QUICK_INNOVATION,    /* 1 while it is available */
+    CRAFTY_TRAINED_PERFECTION,  /* 0 never used, 1 active, 2 spent */
+    CRAFTY_INNER_QUIET,
+    CRAFTY_WASTE_NOT,
+    CRAFTY_WASTE_NOT_II,
+    CRAFTY_MANIPULATION,
+    CRAFTY_GREAT_STRIDES,
+    CRAFTY_INNOVATION,
+    CRAFTY_VENERATION,
+    CRAFTY_MUSCLE_MEMORY,
+    CRAFTY_LAST_ACTION,         /* 31 for none */
+    CRAFTY_NUMBERS              /* how many there are: 21 */
+};
+
+/* Replays a list of actions, one byte to an action, from the start of a craft, in plain or in strict mode. The context
+ * is its fifteen fields; the four flags are 0 or 1. Writes CRAFTY_NUMBERS numbers, which is the value of a success.
+ * Refused by 1, 3 (also past the place where the replay would stop), 6. */
+crafty_answer crafty_replay(
+    uint32_t player_job_level,
+    uint32_t recipe_job_level,
+    uint32_t base_progress_factor,
+    uint32_t base_quality_factor,
+    uint32_t step_max,
+    uint32_t progress_target,
+    uint32_t starting_quality,
+    uint32_t quality_target,
+    uint32_t durability_max,
+    uint32_t cp_max,
+    uint32_t is_expert,
+    uint32_t action_pool,
+    uint32_t player_is_specialist,
+    uint32_t use_manipulation,
+    uint32_t use_delineation,
+    bool strict,
+    const uint8_t *list, size_t list_length,
+    uint32_t *out, size_t out_length);
+
+/* Replays the input of the program `replay`: a line of the fifteen fields, 1 to 10 digits each, and then a list as
+ * text; in plain mode. Writes the state's line at the start and after each executed action, and the line of the
+ * result. Refused by 13, 12, 1, 5 (the offset counts from the start of the input), 6. */
+crafty_answer crafty_replay_text(const uint8_t *input, size_t input_length, uint8_t *out, size_t out_length);
+
+/* What the program `replay` prints for an input: the same text, or `refused N` and a line feed. Refused by 6. */
+crafty_answer crafty_print(const uint8_t *input, size_t input_length, uint8_t *out, size_t out_length);
+
+/* The actions that a text names, one byte to an action: words parted by bytes 9, 10, 13 and 32. Refused by 5, 6. */
+crafty_answer crafty_read_list(const uint8_t *text, size_t text_length, uint8_t *out, size_t out_length);
+
+/* A list as text: each action's name and a line feed. Refused by 13, 3, 6. */
+crafty_answer crafty_write_list(const uint8_t *list, size_t list_length, uint8_t *out, size_t out_length);
+
+/* A list's macro time: the value of a success is the sum of its waits in seconds. Refused by 13, 3. */
+crafty_answer crafty_macro_time(const uint8_t *list, size_t list_length);
+
+#ifdef __cplusplus
+}
+#endif
+
+#endif
