@@ -1,0 +1,4 @@
+pub mod Node
+pub mod Sound
+pub mod Best
+pub mod FloatLaws
