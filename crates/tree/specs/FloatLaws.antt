@@ -5,7 +5,7 @@ use mathlib.Core.Bool.{Bool, true, false, not, cond, _&&_, _||_}
 use Prim.Native.Nat.{ℕ, zero, suc, _+_, _-_, _*_, _^_, _≤_, _<_, zero-le}
 use native.Mathlib.Nat.{le-trans, le-of-eq, le-of-lt, le-of-mul-le-mul-right, eq-of-mul-eq-mul-right, mul-le-mul-right, mul-one, one-mul, zero-mul, add-mul, mul-assoc, mul-right-comm, sub-zero}
 use native.Mathlib.Omega.{arith}
-use lib.Dec.{T, leb, ltb, eqb, lt→ltb, eqb→eq, lit≤}
+use lib.Dec.{T, leb, ltb, eqb, lt→ltb, eqb→eq, eqb-refl, lit≤}
 use lib.IntN.{ℤ, pos}
 use lib.Ieee.{Float, nan, inf, fin, binary32, Format, prec, up, down, round, sum, add, neg, lt, eq, le, ofInt, ofBits, toUnsigned, inFloat, toBits, top, fits, isNan}
 use lib.Ieee.Bits.{toBits-lt}
@@ -16,7 +16,7 @@ use lib.Ieee.Scale.{round-same}
 use borrow.Author.Tests.{ltb-true, ltb-false, lt-ltb, le-ltb}
 use Rattle.laws.specs.Tests.{and-left, and-right, or-left}
 use Rattle.laws.specs.Small.{Small}
-use Rattle.tree.specs.Node.{plusZero, one, visitsMost, float}
+use Rattle.tree.specs.Node.{plusZero, one, visitsMost, countMost, float}
 use Rattle.tree.specs.Sound.{within, minus}
 
 -- ---- comparisons of magnitudes, as `le` computes them
@@ -131,14 +131,18 @@ zero-above (fin false m e) p = lt→ltb 0 (1 * down e + m * up e * 1) (omega (ar
 
 -- ---- counts: whole numbers up to 2 ^ 24
 
-most-value : HasValue visitsMost false 16777216 1
+pub zero-value : HasValue plusZero false 0 1
 unfolding ofBits
+zero-value = (refl, refl)
+
+pub most-value : HasValue visitsMost false countMost 1
+unfolding ofInt
 most-value = (refl, refl)
 
-pub count-small : (x : Float) → T (le plusZero x && le x visitsMost) → Small x 16777216
-count-small x h = zero-small x visitsMost 16777216 most-value (and-left (le plusZero x) _ h) (and-right (le plusZero x) _ h)
+pub count-small : (x : Float) → T (le plusZero x && le x visitsMost) → Small x countMost
+count-small x h = zero-small x visitsMost countMost most-value (and-left (le plusZero x) _ h) (and-right (le plusZero x) _ h)
 
-one-value : HasValue one false 1 1
+pub one-value : HasValue one false 1 1
 unfolding ofBits
 one-value = (refl, refl)
 
@@ -154,6 +158,13 @@ eq-equals (fin t n d) (inf s) k is h = absurd h
 eq-equals (fin t n d) (fin s m e) k is h =
     let cross : n * up d * down e ≡ m * up e * down d = level-of _ _ _ h in
     mul-one (m * up e) ∙ eq-of-mul-eq-mul-right (down d) (down-pos d) (m * up e) (k * down e) (sym cross ∙ ap (λ (z : ℕ). z * down e) (sym (mul-one (n * up d)) ∙ is .1) ∙ mul-right-comm k (down d) (down e))
+
+pub eq-self : (x : Float) (k : ℕ) → HasValue x false k 1 → T (eq x x)
+unfolding eq
+eq-self nan k is = absurd is
+eq-self (inf s) k is = absurd is
+eq-self (fin true m e) k is = absurd (subst T (is .0) tt)
+eq-self (fin false m e) k is = and-i (eqb (m * up e * down e) (m * up e * down e)) true (eqb-refl (m * up e * down e)) tt
 
 -- one more than a count is the next whole number
 counted : (k c : ℕ) → (k * c + 1 * c) * 1 ≡ (k + 1) * (c * 1)

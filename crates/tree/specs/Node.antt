@@ -9,7 +9,7 @@ use Rattle.refusal.specs.declared.Refusal.the-variants.{BadScore}
 use Rattle.action.specs.Known.{actions}
 use Rattle.tree.specs.declared.node.Node.{Node}
 
--- ---- the numbers: +0.0, 1.0, -1.0 and 16777216.0, and a whole number `as f32`
+-- ---- the numbers: +0.0, 1.0, -1.0, and a whole number `as f32`
 
 abbrev pub plusZero : Float
 plusZero = ofBits binary32 0
@@ -20,11 +20,15 @@ one = ofBits binary32 0x3f80_0000
 abbrev pub minusOne : Float
 minusOne = ofBits binary32 0xbf80_0000
 
-abbrev pub visitsMost : Float
-visitsMost = ofBits binary32 0x4b80_0000
-
 abbrev pub float : ℕ → Float
 float n = ofInt binary32 (pos n)
+
+-- the most visits
+abbrev pub countMost : ℕ
+countMost = 16777216
+
+abbrev pub visitsMost : Float
+visitsMost = float countMost
 
 -- ---- a record that was never visited
 
