@@ -3,3 +3,5 @@ pub mod Sound
 pub mod Best
 pub mod FloatLaws
 pub mod NodeLaws
+pub mod Tree
+pub mod TreeLaws
