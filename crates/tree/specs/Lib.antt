@@ -5,3 +5,4 @@ pub mod FloatLaws
 pub mod NodeLaws
 pub mod Tree
 pub mod TreeLaws
+pub mod PathLaws
