@@ -159,6 +159,11 @@ eq-equals (fin t n d) (fin s m e) k is h =
     let cross : n * up d * down e ≡ m * up e * down d = level-of _ _ _ h in
     mul-one (m * up e) ∙ eq-of-mul-eq-mul-right (down d) (down-pos d) (m * up e) (k * down e) (sym cross ∙ ap (λ (z : ℕ). z * down e) (sym (mul-one (n * up d)) ∙ is .1) ∙ mul-right-comm k (down d) (down e))
 
+pub same-value : (x : Float) (a b : ℕ) → HasValue x false a 1 → Equals x b 1 → a ≡ b
+same-value nan a b p q = absurd p
+same-value (inf s) a b p q = absurd p
+same-value (fin s m e) a b p q = eq-of-mul-eq-mul-right (down e) (down-pos e) a b (sym (p .1) ∙ q)
+
 pub eq-self : (x : Float) (k : ℕ) → HasValue x false k 1 → T (eq x x)
 unfolding eq
 eq-self nan k is = absurd is

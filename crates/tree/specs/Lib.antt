@@ -6,3 +6,4 @@ pub mod NodeLaws
 pub mod Tree
 pub mod TreeLaws
 pub mod PathLaws
+pub mod BackLaws

@@ -1,7 +1,7 @@
 -- Laws of one record: what is known of a sound one; that a new one is sound where its parent is below it and its action known; and that a sound one with a
 -- visit to spare is sound after it, whatever the rounding of its sum.
 -- Assumes nothing.
-use mathlib.Core.Path.{_≡_, refl, sym, subst, _∙_}
+use mathlib.Core.Path.{_≡_, refl, sym, ap, subst, _∙_}
 use mathlib.Core.Bool.{Bool, true, false, not, cond, _&&_, _||_}
 use Prim.Native.Nat.{ℕ, _+_, _≤_, _<_}
 use native.Mathlib.Omega.{arith}
@@ -20,7 +20,7 @@ use Rattle.action.specs.Known.{actions, known}
 use Rattle.tree.specs.declared.node.Node.{Node}
 use Rattle.tree.specs.Node.{plusZero, one, minusOne, visitsMost, countMost, float, nodeOf, rootNode, isScore, isFull, greaterOf, touchedOf}
 use Rattle.tree.specs.Sound.{placed, isWhole, isCount, within, minus, isMaximum, soundAt}
-use Rattle.tree.specs.FloatLaws.{within-small, small-within, count-small, eq-self, eq-equals, count-more, plus-above, zero-value, one-value, most-value}
+use Rattle.tree.specs.FloatLaws.{within-small, small-within, count-small, eq-self, eq-equals, same-value, count-more, plus-above, zero-value, one-value, most-value}
 
 holds : {b : Bool} → b ≡ true → T b
 holds e = subst T (sym e) tt
@@ -108,21 +108,41 @@ greater-maximum maximum score e is = go (lt maximum score) refl
         let parts = plus-above maximum score (holds (both (le plusZero maximum && le maximum one) _ e .1)) (holds q) in
         simp (is-true (le plusZero score) (parts .0), both (le minusOne score) _ is .1, is-true (not (minus score)) (parts .1))
 
-module _ (k : ℕ) (n : Node) (score : Float) (sound : soundAt k n ≡ true) (is : isScore score ≡ true) (room : isFull n ≡ false) where
-  -- THE theorem of one record
-  pub touched-sound : soundAt k (touchedOf n score) ≡ true
+module _ (k : ℕ) (n : Node) (score : Float) (sound : soundAt k n ≡ true) (room : isFull n ≡ false) where
+  abbrev visitsOf : ℕ
+  visitsOf = toUnsigned 64 (n .visits)
+
+  visits-below : visitsOf < countMost
+  visits-below = count-below (n .visits) (sound-parts sound .count) room
+
+  visits-equal : Equals (n .visits) visitsOf 1
+  visits-equal = count-equals (n .visits) (sound-parts sound .count)
+
+  visits-more : add binary32 (n .visits) one ≡ float (visitsOf + 1)
+  visits-more = count-more (n .visits) visitsOf refl visits-equal
+
+  visits-value : HasValue (float (visitsOf + 1)) false (visitsOf + 1) 1
+  visits-value = of-nat-value binary32 (visitsOf + 1) (omega (arith, visits-below))
+
+  -- a visit is seen
+  pub touched-differs : touchedOf n score ≡ n → ⊥
   unfolding touchedOf
-  touched-sound =
+  touched-differs e =
+      let stays : float (visitsOf + 1) ≡ n .visits = sym visits-more ∙ ap (λ (m : Node). m .visits) e in
+      omega (arith, same-value (n .visits) (visitsOf + 1) visitsOf (rw stays at visits-value) visits-equal)
+
+  -- THE theorem of one record
+  pub touched-sound : isScore score ≡ true → soundAt k (touchedOf n score) ≡ true
+  unfolding touchedOf
+  touched-sound is =
       let parts = sound-parts sound in
-      let c : ℕ = toUnsigned 64 (n .visits) in
-      let below : c < countMost = count-below (n .visits) (parts .count) room in
-      let equals : Equals (n .visits) c 1 = count-equals (n .visits) (parts .count) in
-      let next : add binary32 (n .visits) one ≡ float (c + 1) = count-more (n .visits) c refl equals in
-      let summed : Small (add binary32 (n .«score_sum») score) (c + 1) =
-          add-small binary32 (n .«score_sum») score c 1 (omega arith) (within-small (n .«score_sum») (n .visits) c equals (holds (parts .sum))) (score-small score is) in
+      let summed : Small (add binary32 (n .«score_sum») score) (visitsOf + 1) =
+          add-small binary32 (n .«score_sum») score visitsOf 1 (omega (arith, visits-below))
+          (within-small (n .«score_sum») (n .visits) visitsOf visits-equal (holds (parts .sum)))
+          (score-small score is) in
       sound-of (record {
         place = parts .place;
-        count = rw next (float-count (c + 1) (omega arith));
-        sum = rw next (is-true _ (small-within (add binary32 (n .«score_sum») score) (float (c + 1)) (c + 1) (of-nat-value binary32 (c + 1) (omega arith)) summed));
+        count = rw visits-more (float-count (visitsOf + 1) (omega (arith, visits-below)));
+        sum = rw visits-more (is-true _ (small-within (add binary32 (n .«score_sum») score) (float (visitsOf + 1)) (visitsOf + 1) visits-value summed));
         maximum = greater-maximum (n .«max_score») score (parts .maximum) is;
       })
