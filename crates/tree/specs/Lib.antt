@@ -7,3 +7,5 @@ pub mod Tree
 pub mod TreeLaws
 pub mod PathLaws
 pub mod BackLaws
+pub mod SolutionLaws
+pub mod Worked
