@@ -21,7 +21,7 @@ use Rattle.tree.specs.Sound.{within, minus}
 
 -- ---- comparisons of magnitudes, as `le` computes them
 
-under : (a b : ℕ) (t : Bool) → T (ltb a b || (eqb a b && t)) → a ≤ b
+pub under : (a b : ℕ) (t : Bool) → T (ltb a b || (eqb a b && t)) → a ≤ b
 under a b t h = go (ltb a b) refl h
   where
     go : (l : Bool) → ltb a b ≡ l → T (l || (eqb a b && t)) → a ≤ b
@@ -39,7 +39,7 @@ over a b t h = go (ltb a b) refl h
 level-of : (a b : ℕ) (t : Bool) → T (eqb a b && t) → a ≡ b
 level-of a b t h = eqb→eq a b (and-left (eqb a b) t h)
 
-at-most : (a b : ℕ) → a ≤ b → T (ltb a b || (eqb a b && true))
+pub at-most : (a b : ℕ) → a ≤ b → T (ltb a b || (eqb a b && true))
 at-most a b h = go (ltb a b) refl
   where
     go : (l : Bool) → ltb a b ≡ l → T (l || (eqb a b && true))

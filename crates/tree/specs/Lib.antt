@@ -9,3 +9,4 @@ pub mod PathLaws
 pub mod BackLaws
 pub mod SolutionLaws
 pub mod Worked
+pub mod BestLaws

@@ -22,7 +22,7 @@ use Rattle.tree.specs.Node.{plusZero, one, minusOne, visitsMost, countMo
 use Rattle.tree.specs.Sound.{placed, isWhole, isCount, within, minus, isMaximum, soundAt}
 use Rattle.tree.specs.FloatLaws.{within-small, small-within, count-small, eq-self, eq-equals, same-value, count-more, plus-above, zero-value, one-value, most-value}
 
-holds : {b : Bool} → b ≡ true → T b
+pub holds : {b : Bool} → b ≡ true → T b
 holds e = subst T (sym e) tt
 
 or-right : (a : Bool) {b : Bool} → b ≡ true → a || b ≡ true

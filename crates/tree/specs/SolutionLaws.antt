@@ -25,7 +25,7 @@ pub record IsChild (m : ℕ) (nodes : List Node) (parent : ℕ) (best : Best) : 
   pub child : isChild (best .at) (nodeAt nodes (best .at)) parent ≡ true
   pub score : best .«max_score» ≡ nodeAt nodes (best .at) .«max_score»
 
-abbrev taken : ℕ → Node → Best
+abbrev pub taken : ℕ → Node → Best
 taken k n = record { at = k; «max_score» = n .«max_score» }
 
 pub best-child : (m : ℕ) (nodes : List Node) (parent : ℕ) → 0 < bestTo m nodes parent .at → IsChild m nodes parent (bestTo m nodes parent)

@@ -27,7 +27,7 @@ pub record SoundTree (nodes : List Node) (count : ℕ) : Type 0 where
   pub room : count ≤ length nodes
   pub each : (k : ℕ) → k < count → soundAt k (nodeAt nodes k) ≡ true
 
-last-or-below : (k m : ℕ) → k < suc m → (k ≡ m) ⊎ (k < m)
+pub last-or-below : (k m : ℕ) → k < suc m → (k ≡ m) ⊎ (k < m)
 last-or-below k m h = let most : k ≤ m = omega arith in eq-or-lt-of-le most
 
 pub sound-each : (m : ℕ) (nodes : List Node) → soundTo m nodes ≡ true → (k : ℕ) → k < m → soundAt k (nodeAt nodes k) ≡ true
