@@ -221,6 +221,6 @@ bits-sign nan f h = absurd h
 bits-sign (inf true) f h = refl
 bits-sign (inf false) f h = refl
 bits-sign (fin true m e) f h = le-ltb (toBits binary32 (fin true m e)) 0x8000_0000 (omega arith)
-bits-sign (fin false m e) f h = 
+bits-sign (fin false m e) f h =
     let bound : toBits binary32 (fin true m e) < 2 * top binary32 = toBits-lt binary32 (fin true m e) (fits-either m e f) in
     lt-ltb (toBits binary32 (fin false m e)) 0x8000_0000 (omega arith)

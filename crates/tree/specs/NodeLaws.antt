@@ -137,9 +137,9 @@ module _ (k : ℕ) (n : Node) (score : Float) (sound : soundAt k n ≡ true) (ro
   touched-sound is =
       let parts = sound-parts sound in
       let summed : Small (add binary32 (n .«score_sum») score) (visitsOf + 1) =
-          add-small binary32 (n .«score_sum») score visitsOf 1 (omega (arith, visits-below))
-          (within-small (n .«score_sum») (n .visits) visitsOf visits-equal (holds (parts .sum)))
-          (score-small score is) in
+      add-small binary32 (n .«score_sum») score visitsOf 1 (omega (arith, visits-below))
+      (within-small (n .«score_sum») (n .visits) visitsOf visits-equal (holds (parts .sum)))
+      (score-small score is) in
       sound-of (record {
         place = parts .place;
         count = rw visits-more (float-count (visitsOf + 1) (omega (arith, visits-below)));

@@ -1,6 +1,6 @@
 -- `tree::soundness::is_maximum` meets its contract: a NaN is not from 0 to 1, and the sign bit tells minus zero.
 -- Assumes nothing.
-use mathlib.Core.Path.{sym, subst}
+use mathlib.Core.Path.{sym, subst, _∙_}
 use mathlib.Core.Bool.{not}
 use lib.Dec.{T}
 use lib.Ieee.{isNan}
@@ -17,4 +17,7 @@ pub is-maximum-spec : {M : Type 1} → statement M
 unfolding isMaximum
 is-maximum-spec =
     tie.close
-    (tie.spec number (λ c. simp (c .if1 .taken, bits-sign (c .before .args .score) (subst T (sym (c .before .good .0 .1)) tt) (number c))) (λ c. simp (c .if1 .left)))
+    (tie.spec
+    number
+    (λ c. bits-sign (c .before .args .score) (subst T (sym (c .before .good .0 .1)) tt) (number c) ∙ simp (c .if1 .taken))
+    (λ c. simp (c .if1 .left)))
