@@ -1,9 +1,9 @@
 -- The best child of a sound tree: none has a greater max_score, and none after it has the same. Children are listed each, and in order.
 -- Assumes nothing.
-use mathlib.Core.Path.{_≡_, refl, sym, ap, _∙_, subst}
-use mathlib.Core.Bool.{Bool, true, false, not, cond, _&&_, _||_}
-use mathlib.Core.List.{List, [], _∷_, _++_}
-use mathlib.Core.Logic.{_⊎_, inl, inr, ⊎-elim}
+use mathlib.Core.Path.{_≡_, refl, sym, _∙_}
+use mathlib.Core.Bool.{Bool, true, false, not, cond, _&&_}
+use mathlib.Core.List.{List}
+use mathlib.Core.Logic.{_⊎_, inl, inr}
 use Prim.Native.Nat.{ℕ, zero, suc, _*_, _≤_, _<_}
 use native.Mathlib.Nat.{le-refl, le-of-lt}
 use native.Mathlib.Omega.{arith}
@@ -13,14 +13,14 @@ use lib.Ieee.Bits.{is-true}
 use lib.Ieee.Fits.{down-pos}
 use lib.Ieee.Positive.{through}
 use borrow.Author.Tests.{leb-true, leb-false, eqb-false, ne-eqb, not-true}
-use Rattle.laws.specs.Tests.{true-false, both, neither, either}
+use Rattle.laws.specs.Tests.{true-false, both, neither}
 use Rattle.tree.specs.declared.node.Node.{Node}
 use Rattle.tree.specs.declared.best.Best.{Best}
 use Rattle.tree.specs.Node.{plusZero, one}
-use Rattle.tree.specs.Sound.{minus, isMaximum, soundAt}
+use Rattle.tree.specs.Sound.{isMaximum}
 use Rattle.tree.specs.Best.{isChild, isBetter, pickOf}
 use Rattle.tree.specs.FloatLaws.{under, at-most}
-use Rattle.tree.specs.NodeLaws.{holds, sound-parts}
+use Rattle.tree.specs.NodeLaws.{holds}
 use Rattle.tree.specs.Tree.{nodeAt, bestTo}
 use Rattle.tree.specs.TreeLaws.{last-or-below}
 use Rattle.tree.specs.SolutionLaws.{taken, best-child}

@@ -1,20 +1,20 @@
 -- Laws of floats for the records: bounds by comparisons and back, counts of visits, maxima, and the sign by its bit.
 -- Assumes nothing.
 use mathlib.Core.Path.{_≡_, refl, sym, ap, _∙_, subst}
-use mathlib.Core.Bool.{Bool, true, false, not, cond, _&&_, _||_}
-use Prim.Native.Nat.{ℕ, zero, suc, _+_, _-_, _*_, _^_, _≤_, _<_, zero-le}
+use mathlib.Core.Bool.{Bool, true, false, not, _&&_, _||_}
+use Prim.Native.Nat.{ℕ, zero, suc, _+_, _-_, _*_, _≤_, _<_, zero-le}
 use native.Mathlib.Nat.{le-trans, le-of-eq, le-of-lt, le-of-mul-le-mul-right, eq-of-mul-eq-mul-right, mul-le-mul-right, mul-one, one-mul, zero-mul, add-mul, mul-assoc, mul-right-comm, sub-zero}
 use native.Mathlib.Omega.{arith}
-use lib.Dec.{T, leb, ltb, eqb, lt→ltb, eqb→eq, eqb-refl, lit≤}
+use lib.Dec.{T, ltb, eqb, lt→ltb, eqb→eq, eqb-refl, lit≤}
 use lib.IntN.{ℤ, pos}
-use lib.Ieee.{Float, nan, inf, fin, binary32, Format, prec, up, down, round, sum, add, neg, lt, eq, le, ofInt, ofBits, toUnsigned, inFloat, toBits, top, fits, isNan}
+use lib.Ieee.{Float, nan, inf, fin, binary32, up, down, round, sum, add, neg, lt, eq, le, ofInt, ofBits, toUnsigned, toBits, top, fits, isNan}
 use lib.Ieee.Bits.{toBits-lt}
 use lib.Ieee.Digits.{Equals}
 use lib.Ieee.Exact.{HasValue}
 use lib.Ieee.Fits.{down-pos, and-i, eq→eqb}
 use lib.Ieee.Scale.{round-same}
 use borrow.Author.Tests.{ltb-true, ltb-false, lt-ltb, le-ltb}
-use Rattle.laws.specs.Tests.{and-left, and-right, or-left}
+use Rattle.laws.specs.Tests.{and-left, and-right}
 use Rattle.laws.specs.Small.{Small}
 use Rattle.tree.specs.Node.{plusZero, one, visitsMost, countMost, float}
 use Rattle.tree.specs.Sound.{within, minus}

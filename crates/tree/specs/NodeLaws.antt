@@ -5,9 +5,8 @@ use mathlib.Core.Path.{_≡_, refl, sym, ap, subst, _∙_}
 use mathlib.Core.Bool.{Bool, true, false, not, cond, _&&_, _||_}
 use Prim.Native.Nat.{ℕ, _+_, _≤_, _<_}
 use native.Mathlib.Omega.{arith}
-use lib.Dec.{T, lit≤, lit<, le→leb}
-use lib.IntN.{pos}
-use lib.Ieee.{Float, nan, inf, fin, binary32, ofBits, ofInt, add, neg, lt, le, eq, toUnsigned, inFloat}
+use lib.Dec.{T, lit≤, le→leb}
+use lib.Ieee.{Float, binary32, ofBits, ofInt, add, neg, lt, le, eq, toUnsigned, inFloat}
 use lib.Ieee.Back.{unsigned-back}
 use lib.Ieee.Bits.{is-true}
 use lib.Ieee.Digits.{Equals}
@@ -16,10 +15,10 @@ use lib.Ieee.Order.{le-of-values}
 use borrow.Author.Tests.{lt-ltb, ne-eqb}
 use Rattle.laws.specs.Tests.{true-false, both, and-both}
 use Rattle.laws.specs.Small.{Small, of-nat-value, truncated-small, add-small}
-use Rattle.action.specs.Known.{actions, known}
+use Rattle.action.specs.Known.{known}
 use Rattle.tree.specs.declared.node.Node.{Node}
 use Rattle.tree.specs.Node.{plusZero, one, minusOne, visitsMost, countMost, float, nodeOf, rootNode, isScore, isFull, greaterOf, touchedOf}
-use Rattle.tree.specs.Sound.{placed, isWhole, isCount, within, minus, isMaximum, soundAt}
+use Rattle.tree.specs.Sound.{placed, isCount, within, minus, isMaximum, soundAt}
 use Rattle.tree.specs.FloatLaws.{within-small, small-within, count-small, eq-self, eq-equals, same-value, count-more, plus-above, zero-value, one-value, most-value}
 
 pub holds : {b : Bool} → b ≡ true → T b

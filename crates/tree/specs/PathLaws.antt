@@ -1,21 +1,18 @@
 -- Laws of the way up from a record: step by step for a loop, no record twice, and the same after a visit, which leaves every parent.
 -- Assumes nothing.
-use mathlib.Core.Path.{_≡_, refl, sym, ap, _∙_}
+use mathlib.Core.Path.{_≡_, refl, ap, _∙_}
 use mathlib.Core.Bool.{Bool, true, false, not, cond, _&&_, _||_}
 use mathlib.Core.List.{List, [], _∷_}
-use mathlib.Core.Logic.{⊎-elim}
 use Prim.Native.Nat.{ℕ, zero, suc, _≤_, _<_}
 use native.Mathlib.Nat.{le-refl}
 use native.Mathlib.Omega.{arith}
 use lib.Dec.{eqb, eqb·suc-zero}
 use lib.Ieee.{Float}
-use lib.ListN.{length, set}
-use lib.Seq.{getD-set-same, getD-set-other}
-use borrow.Author.Tests.{eq-eqb, ne-eqb, eqb-true, eqb-false}
-use Rattle.laws.specs.Tests.{either, neither, or-true, or-false}
+use borrow.Author.Tests.{eq-eqb, ne-eqb, eqb-false}
+use Rattle.laws.specs.Tests.{neither, or-true, or-false}
 use Rattle.tree.specs.declared.node.Node.{Node}
 use Rattle.tree.specs.Node.{touchedOf}
-use Rattle.tree.specs.Tree.{noNode, nodeAt, aboveIn, isAbove, pathIn, pathOf, touchedAt}
+use Rattle.tree.specs.Tree.{nodeAt, aboveIn, isAbove, pathIn, pathOf, touchedAt}
 use Rattle.tree.specs.TreeLaws.{Falls}
 
 module _ (nodes : List Node) (count target : ℕ) (falls : Falls nodes count) where

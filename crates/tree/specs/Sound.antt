@@ -1,6 +1,6 @@
 -- Soundness of one record at its number, as document 01 has it.
 -- Assumes nothing.
-use mathlib.Core.Bool.{Bool, true, false, not, cond, _&&_}
+use mathlib.Core.Bool.{Bool, false, not, cond, _&&_}
 use Prim.Native.Nat.{ℕ}
 use lib.Dec.{eqb, ltb}
 use lib.Ieee.{Float, nan, inf, fin, neg, le, eq, toUnsigned}

@@ -1,22 +1,22 @@
 -- Laws of a tree: what soundness says, record by record, and that a new tree and an accepted insertion are sound.
 -- Assumes nothing.
-use mathlib.Core.Path.{_≡_, refl, sym, ap, _∙_}
-use mathlib.Core.Bool.{Bool, true, false, cond, _&&_}
-use mathlib.Core.List.{List, [], _∷_}
+use mathlib.Core.Path.{_≡_, refl}
+use mathlib.Core.Bool.{true, _&&_}
+use mathlib.Core.List.{List}
 use mathlib.Core.Logic.{_⊎_, ⊎-elim}
 use Prim.Native.Nat.{ℕ, zero, suc, _+_, _≤_, _<_}
 use native.Mathlib.Nat.{eq-or-lt-of-le}
 use native.Mathlib.Numerals.{add-one}
 use native.Mathlib.Omega.{arith}
-use lib.Dec.{eqb, leb}
-use lib.ListN.{length, set, length-set}
+use lib.Dec.{leb}
+use lib.ListN.{length, length-set}
 use lib.Seq.{getD-set-same, getD-set-other}
-use borrow.Author.Tests.{le-leb, leb-true, ltb-true, eqb-true, ne-eqb}
+use borrow.Author.Tests.{le-leb, leb-true, ltb-true, ne-eqb}
 use Rattle.laws.specs.Tests.{both, and-both}
 use Rattle.action.specs.Known.{known}
 use Rattle.tree.specs.declared.node.Node.{Node}
 use Rattle.tree.specs.Node.{nodeOf, rootNode}
-use Rattle.tree.specs.Sound.{placed, soundAt}
+use Rattle.tree.specs.Sound.{soundAt}
 use Rattle.tree.specs.NodeLaws.{sound-parts, root-sound, new-sound}
 use Rattle.tree.specs.Tree.{noNode, nodeAt, soundTo, isSound, plantedOf, insertedOf}
 

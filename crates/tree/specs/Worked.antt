@@ -7,10 +7,10 @@ use Prim.Native.Nat.{ℕ}
 use lib.Ieee.{nan, binary32, ofBits, ofInt, toBits, toUnsigned, add, neg, lt, le, eq}
 use Rattle.action.specs.Actions.{BasicTouch, Observe}
 use Rattle.tree.specs.declared.node.Node.{Node}
-use Rattle.tree.specs.Node.{plusZero, one, rootNode, isScore, touchedOf}
+use Rattle.tree.specs.Node.{one, rootNode, isScore, touchedOf}
 use Rattle.tree.specs.Sound.{isCount, isMaximum, soundAt}
 use Rattle.tree.specs.Best.{pickOf}
-use Rattle.tree.specs.Tree.{soundTo, isSound, childrenOf, aboveIn, isAbove, pathIn, pathOf, touchedAll, backOf, bestTo, descentIn, solutionOf, endOf}
+use Rattle.tree.specs.Tree.{soundTo, isSound, childrenOf, aboveIn, isAbove, pathIn, touchedAll, backOf, bestTo, descentIn, solutionOf, endOf}
 
 -- a child of the root that was visited once, with this score
 abbrev child : ℕ → Node

@@ -2,7 +2,7 @@
 ghost use mathlib.Core.Path.{_≡_};
 ghost use Rattle.refusal.specs.Judge.{checkedOf};
 ghost use Rattle.tree.specs.Node.{nodeOf, rootNode, scoreTest, isFull, greaterOf, touchedOf};
-use action;
+use action::ACTIONS;
 use refusal::Checked;
 use refusal::Refusal;
 
@@ -18,7 +18,7 @@ pub struct Node {
 
 impl Node {
     // The action of record 0: the number past the last.
-    pub const NO_ACTION: u8 = action::ACTIONS;
+    pub const NO_ACTION: u8 = ACTIONS;
 
     // Up to here a whole number is exact in f32.
     pub const VISITS_MOST: f32 = 16777216.0;
