@@ -11,4 +11,5 @@ pub mod SolutionLaws
 pub mod BestLaws
 pub mod ChildrenLaws
 pub mod Refusals
+pub mod Kept
 pub mod Worked

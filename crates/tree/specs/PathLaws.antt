@@ -1,6 +1,6 @@
 -- Laws of the way up from a record: step by step for a loop, no record twice, and the same after a visit, which leaves every parent.
 -- Assumes nothing.
-use mathlib.Core.Path.{_≡_, refl, ap, _∙_}
+use mathlib.Core.Path.{_≡_, refl, sym, ap, _∙_}
 use mathlib.Core.Bool.{Bool, true, false, not, cond, _&&_, _||_}
 use mathlib.Core.List.{List, [], _∷_}
 use Prim.Native.Nat.{ℕ, zero, suc, _≤_, _<_}
@@ -8,8 +8,9 @@ use native.Mathlib.Nat.{le-refl}
 use native.Mathlib.Omega.{arith}
 use lib.Dec.{eqb, eqb·suc-zero}
 use lib.Ieee.{Float}
-use borrow.Author.Tests.{eq-eqb, ne-eqb, eqb-false}
-use Rattle.laws.specs.Tests.{neither, or-true, or-false}
+use borrow.Author.Tests.{eq-eqb, ne-eqb, eqb-true, eqb-false}
+use Rattle.laws.specs.Lists.{elem}
+use Rattle.laws.specs.Tests.{true-false, neither, or-true, or-false}
 use Rattle.tree.specs.declared.node.Node.{Node}
 use Rattle.tree.specs.Node.{touchedOf}
 use Rattle.tree.specs.Tree.{nodeAt, aboveIn, isAbove, pathIn, pathOf, touchedAt}
@@ -101,6 +102,20 @@ path-falling nodes count target falls (suc steps) k m l h = (l, go (eqb k target
     go : (t : Bool) → eqb k target || eqb k 0 ≡ t → (nodeAt nodes k .parent < k → Falling k rest) → Falling k (cond t [] rest)
     go true e onward = tt
     go false e onward = let none : k ≡ 0 → ⊥ = eqb-false k 0 (neither (eqb k target) (eqb k 0) e .1) in onward (falls k (omega arith) h)
+
+-- ---- the path goes up to a target that is above
+
+pub path-reaches : (nodes : List Node) (steps k target : ℕ) → aboveIn steps nodes k target ≡ true → elem (pathIn steps nodes k target) target ≡ true
+unfolding aboveIn pathIn elem
+path-reaches nodes zero k target e = rw (eq-eqb target k (sym (eqb-true k target e)))
+path-reaches nodes (suc steps) k target e = go (eqb k target) refl (eqb k 0) e (path-reaches nodes steps (nodeAt nodes k .parent) target)
+  where
+    go : (t : Bool) → eqb k target ≡ t → (u : Bool) → t || (not u && aboveIn steps nodes (nodeAt nodes k .parent) target) ≡ true
+        → (aboveIn steps nodes (nodeAt nodes k .parent) target ≡ true → elem (pathIn steps nodes (nodeAt nodes k .parent) target) target ≡ true)
+        → eqb target k || elem (cond (t || u) [] (pathIn steps nodes (nodeAt nodes k .parent) target)) target ≡ true
+    go true q u e rest = rw (eq-eqb target k (sym (eqb-true k target q)))
+    go false q true e rest = absurd (true-false (sym e))
+    go false q false e rest = rw (rest e) (or-true (eqb target k))
 
 -- ---- a visit leaves every parent
 

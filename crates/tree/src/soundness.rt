@@ -2,6 +2,7 @@
 ghost use mathlib.Core.Path.{_≡_};
 ghost use Rattle.tree.specs.Sound.{placed, isCount, within, isMaximum, soundAt};
 use super::node::Node;
+use action::ACTIONS;
 use std::num;
 
 // The bits of minus zero: those of a number from +0 on are below them.
@@ -14,7 +15,7 @@ fn is_placed(k: usize, parent: usize, action: u8) -> bool
     if k == 0 {
         return (parent == 0) & (action == Node::NO_ACTION);
     }
-    (parent < k) & (action < Node::NO_ACTION)
+    (parent < k) & (action < ACTIONS)
 }
 
 // A whole number of visits: cutting off a fraction changes nothing.
