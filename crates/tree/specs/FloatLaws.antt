@@ -13,7 +13,7 @@ use lib.Ieee.Digits.{Equals}
 use lib.Ieee.Exact.{HasValue}
 use lib.Ieee.Fits.{down-pos, and-i, eq→eqb}
 use lib.Ieee.Scale.{round-same}
-use borrow.Author.Tests.{ltb-true, ltb-false, lt-ltb, le-ltb}
+use borrow.Author.Tests.{ltb-true, ltb-false, eqb-true, eqb-false, lt-ltb, le-ltb, eq-eqb, ne-eqb}
 use Rattle.laws.specs.Tests.{and-left, and-right}
 use Rattle.laws.specs.Small.{Small}
 use Rattle.tree.specs.Node.{plusZero, one, visitsMost, countMost, float}
@@ -28,14 +28,6 @@ under a b t h = go (ltb a b) refl h
     go true e h = le-of-lt (ltb-true a b e)
     go false e h = le-of-eq (eqb→eq a b (and-left (eqb a b) t h))
 
--- the same of two that are negative
-over : (a b : ℕ) (t : Bool) → T (ltb a b || (eqb b a && t)) → a ≤ b
-over a b t h = go (ltb a b) refl h
-  where
-    go : (l : Bool) → ltb a b ≡ l → T (l || (eqb b a && t)) → a ≤ b
-    go true e h = le-of-lt (ltb-true a b e)
-    go false e h = le-of-eq (sym (eqb→eq b a (and-left (eqb b a) t h)))
-
 level-of : (a b : ℕ) (t : Bool) → T (eqb a b && t) → a ≡ b
 level-of a b t h = eqb→eq a b (and-left (eqb a b) t h)
 
@@ -46,12 +38,19 @@ at-most a b h = go (ltb a b) refl
     go true e = tt
     go false e = let same : a ≡ b = omega (arith, ltb-false a b e) in and-i (eqb a b) true (eq→eqb same) tt
 
-at-least : (a b : ℕ) → a ≤ b → T (ltb a b || (eqb b a && true))
-at-least a b h = go (ltb a b) refl
+-- the same of two that are negative
+flipped : (a b : ℕ) → eqb a b ≡ eqb b a
+flipped a b = go (eqb b a) refl
   where
-    go : (l : Bool) → ltb a b ≡ l → T (l || (eqb b a && true))
-    go true e = tt
-    go false e = let same : b ≡ a = omega (arith, ltb-false a b e) in and-i (eqb b a) true (eq→eqb same) tt
+    go : (t : Bool) → eqb b a ≡ t → eqb a b ≡ t
+    go true e = eq-eqb a b (sym (eqb-true b a e))
+    go false e = ne-eqb a b (λ q. eqb-false b a e (sym q))
+
+over : (a b : ℕ) (t : Bool) → T (ltb a b || (eqb b a && t)) → a ≤ b
+over a b t h = under a b t (rw (flipped b a) at h)
+
+at-least : (a b : ℕ) → a ≤ b → T (ltb a b || (eqb b a && true))
+at-least a b h = rw (flipped b a) (at-most a b h)
 
 -- what is negative is at most what is not
 opposite : (a b : ℕ) → T (ltb 0 (a + b) || (eqb a b && eqb a 0))

@@ -12,7 +12,7 @@ use Rattle.tree.specs.Sound.{isCount, isMaximum, soundAt}
 use Rattle.tree.specs.Best.{pickOf}
 use Rattle.tree.specs.Tree.{soundTo, isSound, childrenOf, aboveIn, isAbove, pathIn, touchedAll, backOf, bestTo, descentIn, solutionOf, endOf}
 
--- a child of the root that was visited once, with this score
+-- a child of the root that was visited once, with 0.5
 abbrev child : ℕ → Node
 child action = record { parent = 0; action = action; visits = one; «score_sum» = ofBits binary32 0x3f00_0000; «max_score» = ofBits binary32 0x3f00_0000 }
 
@@ -83,3 +83,8 @@ too-many-visits = refl
 half-a-visit : isCount (ofBits binary32 0x3f00_0000) ≡ false
 unfolding isCount ofBits ofInt toUnsigned le lt eq
 half-a-visit = refl
+
+-- minus zero is excluded for max_score alone
+minus-zero-visits : isCount (ofBits binary32 0x8000_0000) ≡ true
+unfolding isCount ofBits ofInt toUnsigned le lt eq
+minus-zero-visits = refl
