@@ -1,0 +1,15 @@
+pub mod Node
+pub mod Sound
+pub mod Best
+pub mod FloatLaws
+pub mod NodeLaws
+pub mod Tree
+pub mod TreeLaws
+pub mod PathLaws
+pub mod BackLaws
+pub mod SolutionLaws
+pub mod BestLaws
+pub mod ChildrenLaws
+pub mod Refusals
+pub mod Kept
+pub mod Worked

@@ -1,0 +1,75 @@
+-- One record of the tree: made, tested for a visit, and visited with a score. Sums and comparisons are those of binary32, by the logic's account of IEEE 754.
+-- Assumes nothing.
+use mathlib.Core.Bool.{Bool, cond, _&&_}
+use Prim.Native.Nat.{ℕ}
+use lib.IntN.{pos}
+use lib.Ieee.{Float, binary32, ofBits, ofInt, add, lt, le}
+use Rattle.refusal.specs.Judge.{Test}
+use Rattle.refusal.specs.declared.Refusal.the-variants.{BadScore}
+use Rattle.action.specs.Known.{actions}
+use Rattle.tree.specs.declared.node.Node.{Node}
+
+-- ---- the numbers: +0.0, 1.0, -1.0, and a whole number `as f32`
+
+abbrev pub plusZero : Float
+plusZero = ofBits binary32 0
+
+abbrev pub one : Float
+one = ofBits binary32 0x3f80_0000
+
+abbrev pub minusOne : Float
+minusOne = ofBits binary32 0xbf80_0000
+
+abbrev pub float : ℕ → Float
+float n = ofInt binary32 (pos n)
+
+-- the most visits
+abbrev pub countMost : ℕ
+countMost = 16777216
+
+abbrev pub visitsMost : Float
+visitsMost = float countMost
+
+-- ---- a record that was never visited
+
+abbrev pub nodeOf : ℕ → ℕ → Node
+nodeOf parent action =
+    record {
+      parent = parent;
+      action = action;
+      visits = plusZero;
+      «score_sum» = plusZero;
+      «max_score» = plusZero;
+    }
+
+-- record 0: parent 0, action 31
+abbrev pub rootNode : Node
+rootNode = nodeOf 0 actions
+
+-- ---- a visit
+
+-- refusal 10: a score is from -1 to 1, and no NaN
+abbrev pub isScore : Float → Bool
+isScore score = le minusOne score && le score one
+
+abbrev pub scoreTest : Float → Test
+scoreTest score = record { passed = isScore score; otherwise = BadScore }
+
+-- refusal 11: the visits are full
+abbrev pub isFull : Node → Bool
+isFull n = le visitsMost (n .visits)
+
+-- the greater of two, and the maximum where they are equal: +0 stays when -0 comes
+abbrev pub greaterOf : Float → Float → Float
+greaterOf maximum score = cond (lt maximum score) score maximum
+
+-- one visit more, the score added, and the greater maximum
+unfoldable pub touchedOf : Node → Float → Node
+touchedOf n score =
+    record {
+      parent = n .parent;
+      action = n .action;
+      visits = add binary32 (n .visits) one;
+      «score_sum» = add binary32 (n .«score_sum») score;
+      «max_score» = greaterOf (n .«max_score») score;
+    }

@@ -1,0 +1,49 @@
+-- The tests of the tree's entries, in the order of document 01's refusals.
+-- Assumes nothing.
+use mathlib.Core.Bool.{not}
+use mathlib.Core.List.{List, [], _∷_}
+use Prim.Native.Nat.{ℕ, _+_}
+use lib.Dec.{ltb}
+use lib.Ieee.{Float}
+use lib.ListN.{length}
+use Rattle.refusal.specs.Judge.{Test, roomTest}
+use Rattle.refusal.specs.declared.Refusal.the-variants.{UnsoundTree, UnknownNode, NotAbove, VisitsFull}
+use Rattle.action.specs.Known.{actionTest}
+use Rattle.tree.specs.declared.node.Node.{Node}
+use Rattle.tree.specs.Node.{scoreTest}
+use Rattle.tree.specs.Tree.{isSound, childrenOf, isAbove, pathOf, anyFull, solutionOf}
+
+-- ---- refusals 7, 8, 9 and 11
+
+abbrev pub treeTest : List Node → ℕ → Test
+treeTest nodes count = record { passed = isSound nodes count; otherwise = UnsoundTree }
+
+abbrev pub nodeTest : ℕ → ℕ → Test
+nodeTest count k = record { passed = ltb k count; otherwise = UnknownNode }
+
+abbrev pub aboveTest : List Node → ℕ → ℕ → Test
+aboveTest nodes start target = record { passed = isAbove nodes start target; otherwise = NotAbove }
+
+abbrev pub visitsTest : List Node → ℕ → ℕ → Test
+visitsTest nodes start target = record { passed = not (anyFull nodes (pathOf nodes start target)); otherwise = VisitsFull }
+
+-- ---- the entries
+
+abbrev pub newTests : List Node → List Test
+newTests nodes = roomTest (length nodes) 1 ∷ []
+
+abbrev pub recordTests : List Node → ℕ → ℕ → List Test
+recordTests nodes count k = treeTest nodes count ∷ nodeTest count k ∷ []
+
+abbrev pub insertTests : List Node → ℕ → ℕ → ℕ → List Test
+insertTests nodes count parent action = actionTest action ∷ treeTest nodes count ∷ nodeTest count parent ∷ roomTest (length nodes) (count + 1) ∷ []
+
+abbrev pub childrenTests : List Node → ℕ → ℕ → ℕ → List Test
+childrenTests nodes count k room = treeTest nodes count ∷ nodeTest count k ∷ roomTest room (length (childrenOf count nodes k)) ∷ []
+
+abbrev pub backTests : List Node → ℕ → ℕ → ℕ → Float → List Test
+backTests nodes count start target score =
+    treeTest nodes count ∷ nodeTest count start ∷ nodeTest count target ∷ aboveTest nodes start target ∷ scoreTest score ∷ visitsTest nodes start target ∷ []
+
+abbrev pub solutionTests : List Node → ℕ → ℕ → List Test
+solutionTests nodes count room = treeTest nodes count ∷ roomTest room (length (solutionOf nodes count)) ∷ []

@@ -1,0 +1,111 @@
+-- The tree: a lent run of records and a count of those used. Its soundness, insertion, children, back-propagation and `solution`, as document 01 has them.
+-- Assumes nothing.
+use mathlib.Core.Bool.{Bool, true, false, not, cond, _&&_, _||_}
+use mathlib.Core.List.{List, [], _∷_, _++_, map}
+use Prim.Native.Nat.{ℕ, zero, suc}
+use lib.Dec.{eqb, leb}
+use lib.Ieee.{Float}
+use lib.ListN.{length, getD, set}
+use Rattle.tree.specs.declared.node.Node.{Node}
+use Rattle.tree.specs.declared.best.Best.{Best}
+use Rattle.tree.specs.Node.{nodeOf, rootNode, isFull, touchedOf}
+use Rattle.tree.specs.Sound.{soundAt}
+use Rattle.tree.specs.Best.{isChild, noBest, pickOf}
+
+-- what `getD` answers past the end
+abbrev pub noNode : Node
+noNode = rootNode
+
+abbrev pub nodeAt : List Node → ℕ → Node
+nodeAt nodes k = getD nodes k noNode
+
+-- ---- soundness: a count from 1 to the number of records, and each record below it sound at its number
+
+unfoldable pub soundTo : ℕ → List Node → Bool
+soundTo zero nodes = true
+soundTo (suc k) nodes = soundTo k nodes && soundAt k (nodeAt nodes k)
+
+unfoldable pub isSound : List Node → ℕ → Bool
+isSound nodes count = (leb 1 count && leb count (length nodes)) && soundTo count nodes
+
+-- ---- a new tree, and insertion at record number count
+
+abbrev pub plantedOf : List Node → List Node
+plantedOf nodes = set nodes 0 rootNode
+
+abbrev pub insertedOf : List Node → ℕ → ℕ → ℕ → List Node
+insertedOf nodes count parent action = set nodes count (nodeOf parent action)
+
+-- ---- children, in record order
+
+unfoldable pub childrenOf : ℕ → List Node → ℕ → List ℕ
+childrenOf zero nodes parent = []
+childrenOf (suc k) nodes parent = childrenOf k nodes parent ++ cond (isChild k (nodeAt nodes k) parent) (k ∷ []) []
+
+-- ---- the way up: a parent is below its child, so from record k on k steps reach record 0
+
+-- target is record k or above it
+unfoldable pub aboveIn : ℕ → List Node → ℕ → ℕ → Bool
+aboveIn zero nodes k target = eqb k target
+aboveIn (suc steps) nodes k target = eqb k target || (not (eqb k 0) && aboveIn steps nodes (nodeAt nodes k .parent) target)
+
+abbrev pub isAbove : List Node → ℕ → ℕ → Bool
+isAbove nodes start target = aboveIn start nodes start target
+
+-- record k, its parent, and so on up to target
+unfoldable pub pathIn : ℕ → List Node → ℕ → ℕ → List ℕ
+pathIn zero nodes k target = k ∷ []
+pathIn (suc steps) nodes k target = k ∷ cond (eqb k target || eqb k 0) [] (pathIn steps nodes (nodeAt nodes k .parent) target)
+
+abbrev pub pathOf : List Node → ℕ → ℕ → List ℕ
+pathOf nodes start target = pathIn start nodes start target
+
+-- ---- back-propagation: the records on the path are touched, and no other
+
+unfoldable pub anyFull : List Node → List ℕ → Bool
+anyFull nodes [] = false
+anyFull nodes (k ∷ path) = isFull (nodeAt nodes k) || anyFull nodes path
+
+abbrev pub touchedAt : List Node → ℕ → Float → List Node
+touchedAt nodes k score = set nodes k (touchedOf (nodeAt nodes k) score)
+
+unfoldable pub touchedAll : List Node → List ℕ → Float → List Node
+touchedAll nodes [] score = nodes
+touchedAll nodes (k ∷ path) score = touchedAll (touchedAt nodes k score) path score
+
+abbrev pub backOf : List Node → ℕ → ℕ → Float → List Node
+backOf nodes start target score = touchedAll nodes (pathOf nodes start target) score
+
+-- ---- `solution`: from record 0 on the best child, until there is none
+
+-- the best child among the first records
+unfoldable pub bestTo : ℕ → List Node → ℕ → Best
+bestTo zero nodes parent = noBest
+bestTo (suc k) nodes parent = pickOf (bestTo k nodes parent) k (nodeAt nodes k) parent
+
+-- 0 is no child
+abbrev pub onward : ℕ → (ℕ → List ℕ) → List ℕ
+onward zero rest = []
+onward (suc k) rest = suc k ∷ rest (suc k)
+
+-- the records below record k that `solution` takes; a child is above its parent, so count steps reach the last
+unfoldable pub descentIn : ℕ → List Node → ℕ → ℕ → List ℕ
+descentIn zero nodes count k = []
+descentIn (suc steps) nodes count k = onward (bestTo count nodes k .at) (descentIn steps nodes count)
+
+abbrev pub descentOf : List Node → ℕ → ℕ → List ℕ
+descentOf nodes count k = descentIn count nodes count k
+
+abbrev pub actionsOf : List Node → List ℕ → List ℕ
+actionsOf nodes path = map (λ (k : ℕ). nodeAt nodes k .action) path
+
+abbrev pub lastOf : ℕ → List ℕ → ℕ
+lastOf k [] = k
+lastOf k (next ∷ path) = lastOf next path
+
+-- the actions, and the last node
+abbrev pub solutionOf : List Node → ℕ → List ℕ
+solutionOf nodes count = actionsOf nodes (descentOf nodes count 0)
+
+abbrev pub endOf : List Node → ℕ → ℕ
+endOf nodes count = lastOf 0 (descentOf nodes count 0)

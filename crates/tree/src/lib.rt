@@ -1,0 +1,13 @@
+// The tree of tree.rs and simulator.rs: its records, and what is worked out of one record by value.
+mod best;
+mod node;
+mod soundness;
+
+pub use best::Best;
+pub use best::is_child;
+pub use best::pick;
+pub use node::Node;
+pub use node::check_score;
+pub use node::is_full;
+pub use node::touched;
+pub use soundness::is_sound_at;
