@@ -1,7 +1,9 @@
-pub mod Walks
-pub mod Reborrow
+pub mod Values
+pub mod Functions
+pub mod Locals
+pub mod Flow
 pub mod Lend
+pub mod Reborrow
+pub mod Elements
 pub mod Calls
 pub mod Meets
-pub mod Index
-pub mod Walking

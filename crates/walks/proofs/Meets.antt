@@ -1,7 +1,7 @@
--- From a walk to the contract, of a function of a `&mut [R]` or a `&[R]` and then plain data (`Calls.antt`'s `MutFn`, `ShrFn`). It says nothing of the crate.
---     MutWalk, ShrWalk     what the author shows: from the slice, its token and the locals, with the arguments in them, the body runs to a return.
+-- From a walk to the contract, of a function of slices and then plain data (`Functions.antt`).
+--     MutWalk, ShrWalk, BothWalk     what the author shows: from the slices, their tokens and the locals, with the arguments in them, the body runs to a return.
 --                          There the author has, from the walk's last argument, that a result r, and of a `&mut` a last list as long as the first, are enough, if they are what the contract says
---     mut-meets, shr-meets     so the function meets its contract
+--     mut-proved, shr-proved, both-proved     so the function meets its contract
 -- Assumes `Given`.
 use mathlib.Core.Path.{_≡_, refl, sym, subst}
 use Prim.Native.Nat.{ℕ}
@@ -33,9 +33,10 @@ use denote.Triple.End.{Fins, all}
 use denote.Triple.Statement.{Triple}
 use denote.Triple.Table.{entered}
 use denote.Triple.Walked.{Stays, stay-slice, stay-dropped, fitsOf, hasOf, walkOf, AllGo, goes-slice, goes-dropped, ends-at, walked, walk-meets}
-use Rattle.walks.proofs.Walks.{none, has, stored, slots, deaths, Blocks, env, Suits, starts}
+use Rattle.walks.proofs.Locals.{none, has, stored, slots, deaths, Blocks, env, Suits, starts}
 use Rattle.walks.proofs.Lend.{View, fat, Tok, Own, Shr}
-use Rattle.walks.proofs.Calls.{Kind, Met, ask-out, Data, machine, Known, slotsOf, rowsOf, spellsOf, tellsOf, valsOf, from, flat-is, known-from, lawfulsOf, MutFn, ShrFn, BothFn, mutT, shrT, bothT, mut-clauses, shr-clauses, both-clauses, ContractMut, ContractShr, ContractBoth}
+use Rattle.walks.proofs.Values.{Kind, Data, machine, Known, slotsOf, rowsOf, spellsOf, tellsOf, valsOf, from, flat-is, known-from, lawfulsOf}
+use Rattle.walks.proofs.Functions.{Met, ask-out, MutFn, ShrFn, BothFn, mutT, shrT, bothT, mut-clauses, shr-clauses, both-clauses, ContractMut, ContractShr, ContractBoth}
 
 -- the arguments are of the types that the MIR has for the parameters, by computation
 abbrev pub MutSuits : {R : RattleType} → MutFn R → List Local → Type 0
@@ -96,7 +97,7 @@ module _ {M : Type 1} (𝓤 : URA M) (H : Heap 𝓤) (A : Atoms 𝓤) (W : Given
         ask-out 𝓤 (F .asks) ys (from 1 ks κs (a .1)) In (λ pre.
         subst (λ (vs : List Val). ent 𝓤 In (WpFn 𝓤 H (𝓣 .C) (𝓣 .Λ) fn (fat S ∷ vs) Q)) (sym (flat-is 1 ks κs (a .1)))
         (qed W ((‵ (Tok S) ⊛ ‵ ftrue) ∷ ‵ (owns (MutSlice (named 0) (κs .0) R ∷ rowsOf 1 ks κs) a (slice-vals (a .0), vss)) ∷ []) ∵ split ! $ move ! (2 ∷ []) $ fsplit ! $ keep ! (0 ∷ 2 ∷ []) $
-        starts ! (𝓣 .C) (𝓣 .Λ) fn (fat S ∷ machine ks (from 1 ks κs (a .1))) Q l ls is
+        starts ! (‵ (Own S ys) ∷ ‵ (Tok S) ∷ []) (𝓣 .C) (𝓣 .Λ) fn (fat S ∷ machine ks (from 1 ks κs (a .1))) Q l ls is
         (λ bs. suits (κs .0) (fat S) (a .1) bs (all-typed 𝓤 H A (MutSlice (named 0) (κs .0) R ∷ rowsOf 1 ks κs) (mut-slice-lawful 𝓤 H A W (named 0) (κs .0) R, lawfulsOf 1 𝓤 H A W ks κs) a (slice-vals (a .0), vss) are))
         (λ bs. walk S ys (from 1 ks κs (a .1)) (known-from 1 ks κs (a .1) (are .1)) refl pre bs Q (λ r zs r-is same e.
         suffices ! _ (ends-at 𝓤 H A (mutT F) hs (mut-clauses 𝓤 H A F) W ((κs, qs, bounds, a, (fat S ∷ [], vss)), g) (F .gives .val r) r (zs, lastsOf 1 ks κs (a .1)) (same, fitsAll 1 ks κs (a .1))) $
@@ -127,7 +128,7 @@ module _ {M : Type 1} (𝓤 : URA M) (H : Heap 𝓤) (A : Atoms 𝓤) (W : Given
         ask-out 𝓤 (F .asks) ys (from 1 ks κs (a .1)) In (λ pre.
         subst (λ (vs : List Val). ent 𝓤 In (WpFn 𝓤 H (𝓣 .C) (𝓣 .Λ) fn (fat S ∷ vs) Q)) (sym (flat-is 1 ks κs (a .1)))
         (qed W ((‵ (Tok S) ⊛ ‵ ftrue) ∷ ‵ (owns (ShrSlice (named 0) (κs .0) R ∷ rowsOf 1 ks κs) a (slice-vals (a .0), vss)) ∷ []) ∵ split ! $ move ! (2 ∷ []) $ fsplit ! $ keep ! (0 ∷ 2 ∷ []) $
-        starts ! (𝓣 .C) (𝓣 .Λ) fn (fat S ∷ machine ks (from 1 ks κs (a .1))) Q l ls is
+        starts ! (‵ (Shr S ys) ∷ ‵ (Tok S) ∷ []) (𝓣 .C) (𝓣 .Λ) fn (fat S ∷ machine ks (from 1 ks κs (a .1))) Q l ls is
         (λ bs. suits (κs .0) (fat S) (a .1) bs (all-typed 𝓤 H A (ShrSlice (named 0) (κs .0) R ∷ rowsOf 1 ks κs) (shr-slice-lawful 𝓤 H A W (named 0) (κs .0) R, lawfulsOf 1 𝓤 H A W ks κs) a (slice-vals (a .0), vss) are))
         (λ bs. walk S ys (from 1 ks κs (a .1)) (known-from 1 ks κs (a .1) (are .1)) refl pre bs Q (λ r r-is e.
         suffices ! _ (ends-at 𝓤 H A (shrT F) hs (shr-clauses 𝓤 H A F) W ((κs, qs, bounds, a, (fat S ∷ [], vss)), g) (F .gives .val r) r (tt, lastsOf 1 ks κs (a .1)) (tt, fitsAll 1 ks κs (a .1))) $ drop ! $
@@ -159,11 +160,10 @@ module _ {M : Type 1} (𝓤 : URA M) (H : Heap 𝓤) (A : Atoms 𝓤) (W : Given
         let Q : Val → SProp 𝓤 = walkOf 𝓤 H A (bothT F) hs (both-clauses 𝓤 H A F) .post ((κs, qs, bounds, a, (fat S ∷ [], (fat O ∷ [], vss))), g) in
         ask-out 𝓤 (F .asks) (ys, os) d In (λ pre.
         subst (λ (vs : List Val). ent 𝓤 In (WpFn 𝓤 H (𝓣 .C) (𝓣 .Λ) fn (fat S ∷ fat O ∷ vs) Q)) (sym (flat-is 2 ks κs (a .1 .1)))
-        (qed W ((‵ (Tok S) ⊛ (‵ (Tok O) ⊛ ‵ ftrue)) ∷ ‵ (owns (ShrSlice (named 0) (κs .0) R ∷ MutSlice (named 1) (κs .1 .0) D ∷ rowsOf 2 ks κs) a (slice-vals (a .0), (slice-vals (a .1 .0), vss))) ∷ []) ∵ split ! $ move ! (1 ∷ []) $ split ! $ move ! (3 ∷ []) $ fsplit ! $ move ! (1 ∷ []) $ fsplit ! $
-        move ! (2 ∷ 5 ∷ []) $ join ! $ move ! (1 ∷ 3 ∷ []) $ join ! $ keep ! (1 ∷ 0 ∷ []) $
-        starts ! (𝓣 .C) (𝓣 .Λ) fn (fat S ∷ fat O ∷ machine ks d) Q l ls is
+        (qed W ((‵ (Tok S) ⊛ (‵ (Tok O) ⊛ ‵ ftrue)) ∷ ‵ (owns (ShrSlice (named 0) (κs .0) R ∷ MutSlice (named 1) (κs .1 .0) D ∷ rowsOf 2 ks κs) a (slice-vals (a .0), (slice-vals (a .1 .0), vss))) ∷ []) ∵ split ! $ move ! (1 ∷ []) $ split ! $ move ! (3 ∷ []) $ fsplit ! $ move ! (1 ∷ []) $ fsplit ! $ keep ! (2 ∷ 5 ∷ 0 ∷ 3 ∷ []) $
+        starts ! (‵ (Shr S ys) ∷ ‵ (Tok S) ∷ ‵ (Own O os) ∷ ‵ (Tok O) ∷ []) (𝓣 .C) (𝓣 .Λ) fn (fat S ∷ fat O ∷ machine ks d) Q l ls is
         (λ bs. suits (κs .0) (κs .1 .0) (fat S) (fat O) (a .1 .1) bs (all-typed 𝓤 H A (ShrSlice (named 0) (κs .0) R ∷ MutSlice (named 1) (κs .1 .0) D ∷ rowsOf 2 ks κs) (shr-slice-lawful 𝓤 H A W (named 0) (κs .0) R, (mut-slice-lawful 𝓤 H A W (named 1) (κs .1 .0) D, lawfulsOf 2 𝓤 H A W ks κs)) a (slice-vals (a .0), (slice-vals (a .1 .0), vss)) are))
-        (λ bs. split ! $ move ! (2 ∷ []) $ split ! $ move ! (2 ∷ 3 ∷ []) $ walk S O ys os d (known-from 2 ks κs (a .1 .1) (are .1 .1)) refl refl pre bs Q (λ r zs r-is same e.
+        (λ bs. walk S O ys os d (known-from 2 ks κs (a .1 .1) (are .1 .1)) refl refl pre bs Q (λ r zs r-is same e.
         suffices ! _ (ends-at 𝓤 H A (bothT F) hs (both-clauses 𝓤 H A F) W ((κs, qs, bounds, a, (fat S ∷ [], (fat O ∷ [], vss))), g) (F .gives .val r) r (tt, (zs, lastsOf 2 ks κs (a .1 .1))) (tt, (same, fitsAll 2 ks κs (a .1 .1)))) $ drop ! $
         use0 W (‵ (hasOf κs (slotsOf ks) (all yes (slotsOf ks)) (staysOf 2 ks) (a .1 .1) (lastsOf 2 ks κs (a .1 .1)) vss)) (hadOf 2 ks κs (a .1 .1) vss) $ move ! (2 ∷ 0 ∷ []) $ fjoin ! $ nothing ! $ fjoin ! $
         use0 W (‵ (F .gives .row .own r (F .gives .val r ∷ []))) (F .gives .makes 𝓤 H A W r (F .gives .val r ∷ []) r-is) $ move ! (1 ∷ 0 ∷ []) $ join ! $

@@ -1,4 +1,4 @@
--- An element of a slice is read, or written, through a pointer to its place, as steps of `Types/Kit.antt`'s calculus. The slice and its token are the head of the context, before it and after it. It says nothing of the crate.
+-- An element of a slice is read, or written, through a pointer to its place, as steps of `Types/Kit.antt`'s calculus. The slice and its token are the head of the context, before it and after it.
 -- Assumes `Given`.
 use mathlib.Core.Path.{_≡_, refl, sym, ap, _∙_, subst}
 use Prim.Native.Nat.{ℕ, zero, suc, _<_}
@@ -21,7 +21,7 @@ use denote.Memory.{mem, cellAt}
 use denote.Slice.{sliceVal, Room, at-slice}
 use denote.Index.{place as spot, elem-out, elem-back, elem-put, opens-slice, closes-slice, looks-slice, shuts-slice}
 use Rattle.walks.proofs.Lend.{View, fat as wide, named-at, Tok, Own, Shr}
-use Rattle.walks.proofs.Calls.{Kind}
+use Rattle.walks.proofs.Values.{Kind}
 
 -- one machine value in memory, as the machine sees it: by computation, at a type that is written out
 abbrev pub Lone : Kind → Ty → Type 1
