@@ -1,6 +1,7 @@
 -- Types of plain data, as a walk knows them, and rows of values of such types.
 --     Kind             a type of plain data: its machine value, that it is seen at exit as it was passed, and that what it owns is had for nothing
 --     usize′, u8′, u32′, f32′, bool′, unit′      those of the language.        struct′, enum′      a declared type, from the laws that Rattle makes of it
+--     struct-is, enum-is       the relation of a declared type, of a value that is put together
 --     Data ks, machine, Known      values of such types, their machine values, and their relations
 -- Assumes `Given`.
 use mathlib.Core.Path.{_≡_, refl, ap}
@@ -22,7 +23,7 @@ use denote.Plain.{UInt, uint-tells, uint-makes, uint-lawful, bool-tells, bool-ma
 use denote.Floats.{float-tells, float-makes, float-lawful}
 use denote.Builtin.{f32, bool, unit}
 use denote.Signature.{Slot, plain, typesAt}
-use denote.Struct.Struct.{Plains}
+use denote.Struct.Struct.{Plains, AreAll}
 use denote.Struct.Declared as Struct
 use denote.Struct.Laws as StructLaws
 use denote.Enum.Enum.{Few, Plainss}
@@ -66,6 +67,13 @@ struct′ T L c p = record { row = Struct.row T; val = StructLaws.val T L; tells
 -- the last argument, that it has at most 256 variants, is `tt`
 abbrev pub enum′ : (T : Enum.Declared) → EnumLaws.Laws T → EnumLaws.Copyabless (T .parts) → Plainss (Enum.variants T) → Few (Enum.shape T) → Kind
 enum′ T L c p few = record { row = Enum.row T; val = EnumLaws.val T L; tells = EnumLaws.tells T L; still = EnumLaws.still T c; makes = λ 𝓤 H A W. EnumLaws.makes T p 𝓤 H A; lawful = λ 𝓤 H A W. EnumLaws.lawful T L 𝓤 H A W few }
+
+-- what is to be shown of a value that is put together in a walk: of each field its own relation, in a row that ends in `tt`; of an enum, of the live variant's fields
+pub struct-is : (T : Struct.Declared) (L : StructLaws.Laws T) (d : T .D) → AreAll (Struct.fields T) (T .to d) (valss (Struct.fields T) (StructLaws.spells (T .parts) L) (T .to d)) → Is (Struct.row T) d (StructLaws.val T L d ∷ [])
+struct-is T L d h = StructLaws.owes T L d h
+
+pub enum-is : (T : Enum.Declared) (L : EnumLaws.Laws T) (d : T .D) → EnumLaws.Fields (Enum.variants T) (EnumLaws.spellss (T .parts) L) (T .to d) → Is (Enum.row T) d (EnumLaws.val T L d ∷ [])
+enum-is T L d h = EnumLaws.owes T L d h
 
 -- ---- rows of values
 abbrev pub Data : List Kind → Type 0
