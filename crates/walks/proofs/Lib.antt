@@ -1,0 +1,10 @@
+pub mod Walking
+pub mod Values
+pub mod Functions
+pub mod Locals
+pub mod Flow
+pub mod Lend
+pub mod Reborrow
+pub mod Elements
+pub mod Calls
+pub mod Meets
