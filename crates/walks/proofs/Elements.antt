@@ -1,5 +1,5 @@
 -- An element of a slice is read, or written, through a pointer to its place, as steps of `Types/Kit.antt`'s calculus. The slice and its token are the head of the context, before it and after it.
--- Assumes `Given`.
+-- Assumes nothing. The rules of the logic, `Given`, are an argument of each law.
 use mathlib.Core.Path.{_≡_, refl, sym, ap, _∙_, subst}
 use Prim.Native.Nat.{ℕ, zero, suc, _<_, _+_, _*_}
 use mathlib.Core.List.{List, [], _∷_}
@@ -13,7 +13,7 @@ use mir.Raw.{raw as rawTy}
 use base.Fml.{Share, Fml, fat, froom}
 use prog.Wp.{Heap, Env, Calls, Loops, spotOf}
 use ghost.Atoms.{Atoms}
-use types.Kit.{Given, Item, ‵, Post, runs, nth, put, Seq, Step, step, _$_, move, drop, use0, rewrite, fsplit, fjoin}
+use types.Kit.{Given, Item, ‵, Post, runs, nth, put, Seq, _$_, move, drop, use0, rewrite, fsplit, fjoin}
 use types.Run.{look, look-raw, store-raw, init, stop, hop, from, load, of-opd, assigns}
 use denote.Shadow.{pureL, pureI}
 use denote.Laws.{Is, Typed, Copy, shows}

@@ -3,7 +3,7 @@
 --     decides          `if c { a } else { a′ }` at the end of a block
 --     whiles           a `while`, whose test is one statement
 -- An arm gets the fact that its test came out so. It ends in a `return`, for which it gets that its own end is the function's, or in `on`, after which b runs.
--- Assumes `Given`.
+-- Assumes nothing. The rules of the logic, `Given`, are an argument of each law.
 use mathlib.Core.Path.{_≡_, refl}
 use Prim.Native.Nat.{ℕ, zero, _<_}
 use mathlib.Core.List.{List, []}
@@ -18,7 +18,7 @@ use mir.Val.{vbool}
 use base.Fml.{fat, froom}
 use prog.Wp.{Heap, Env, Calls, Loops, Tables, Wp, spotOf, next, returns as returnsᴼ, afterTurn, afterBlock, afterSeq}
 use ghost.Atoms.{Atoms}
-use types.Kit.{Given, Item, ‵, nth, put, Post, post, anyQ, runs, prop, Seq, Step, step, _$_}
+use types.Kit.{Given, Item, ‵, nth, Post, post, anyQ, runs, prop, Seq, Step, step, _$_}
 use types.Run.{Opd, Rv, look, load, from, stop, init, assigns, first as into, blocks, loops, again, Below, stays, leaves-loop, branches, skips}
 use Rattle.walks.proofs.Locals.{index, with, Fits}
 

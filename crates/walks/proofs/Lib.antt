@@ -1,3 +1,5 @@
+-- The proof library for functions over a lent slice of structs. `Walking` is the file to open first.
+-- Assumes nothing.
 pub mod Walking
 pub mod Values
 pub mod Functions

@@ -6,7 +6,7 @@
 --     starts           a function is entered: its locals are laid out, and its arguments stored.        returns      it returns: its locals are freed
 --     keeps            all but the first locals are forgotten
 --     opd, part        a local is read, and a field of one.        sets, sets-last, lands-in, lands-last      a local is written, by an assignment or by a call, in the midst of a block or at its end
--- Assumes `Given`.
+-- Assumes nothing. The rules of the logic, `Given`, are an argument of each law.
 use mathlib.Core.Path.{_≡_, refl, sym, subst}
 use Prim.Native.Nat.{ℕ, zero, suc, _+_}
 use mathlib.Core.List.{List, [], _∷_, _++_, map}
@@ -23,7 +23,7 @@ use prog.Memory.{fieldAt}
 use prog.Wp.{Heap, Env, Calls, Loops, WpFn, Spot, spotOf, atReturn, next, returns as returnsᴼ}
 use ghost.Atoms.{Atoms, sem}
 use types.Kit.{Given, Go, !, Item, ‵, raw, _⊛_, some, given, later, nth, put, Post, post, lands, settles, Goal, allocs, passes, params′, frees, runs, atRet, prop, Seq, Step, step, push, pop, mean, ⋆, ++⊢, _$_, move, drop, fsplit, fjoin}
-use types.Run.{Reads, Writes, Walks, alloc1, alloc0, params1, pass1, pass0, free1, free0, init, store, forget, enter, Opd, Opds, and-then, Rv, look, load, fld, from, stop, land, land-last, assigns, assigns-last, returns-within}
+use types.Run.{Writes, Walks, alloc1, alloc0, params1, pass1, pass0, free1, free0, init, store, forget, enter, Opd, Opds, and-then, Rv, look, load, fld, from, stop, land, land-last, assigns, assigns-last, returns-within}
 use types.Part.{Part, whole, sub, look-in}
 use denote.Steps.{nothing}
 
@@ -244,8 +244,8 @@ module _ {M : Type 1} {𝓤 : URA M} {H : Heap 𝓤} {A : Atoms 𝓤} {K : Type 
       → Seq K W Δ (prop (WpFn 𝓤 H C Λ f vs Kf))
   starts t Δ C Λ f vs Kf (local τ h) ls is su k =
       let G : Seq K W (raw (⋆ 𝓤 H A Δ) ∷ []) (prop (WpFn 𝓤 H C Λ f vs Kf)) = enter t C Λ f vs Kf $
-          subst (λ (ms : List Local). Seq K W (raw (⋆ 𝓤 H A Δ) ∷ []) (allocs ms (λ E. params′ E vs (runs C Λ E (f .body) (atRet E Kf))))) (sym is)
-          (laid t (local τ h ∷ ls) (λ bs. params1 t $ fsplit t $ move t (1 ∷ 0 ∷ []) $ passed t (env ls (bs .1)) vs (su (bs .1)) $ move t (1 ∷ 0 ∷ []) $ fjoin t $ move t (2 ∷ []) $ spread t Δ (env (local τ h ∷ ls) bs) (none ∷ stored vs) $ k bs)) in
+      subst (λ (ms : List Local). Seq K W (raw (⋆ 𝓤 H A Δ) ∷ []) (allocs ms (λ E. params′ E vs (runs C Λ E (f .body) (atRet E Kf))))) (sym is)
+      (laid t (local τ h ∷ ls) (λ bs. params1 t $ fsplit t $ move t (1 ∷ 0 ∷ []) $ passed t (env ls (bs .1)) vs (su (bs .1)) $ move t (1 ∷ 0 ∷ []) $ fjoin t $ move t (2 ∷ []) $ spread t Δ (env (local τ h ∷ ls) bs) (none ∷ stored vs) $ k bs)) in
       record { prf = G .prf }
 
   leaves : K → {g : Goal 𝓤 H} (Δ : List (Item 𝓤)) (E : List (Ty × ℕ)) (cs : List Cell) → Step K W (Δ ++ []) g (Δ ++ slots E cs (‵ (deaths E) ∷ [])) (frees E g)

@@ -3,7 +3,7 @@
 --     usize′, u8′, u32′, f32′, bool′, unit′      those of the language.        struct′, enum′      a declared type, from the laws that Rattle makes of it
 --     struct-is, enum-is       the relation of a declared type, of a value that is put together
 --     Data ks, machine, Known      values of such types, their machine values, and their relations
--- Assumes `Given`.
+-- Assumes nothing. The rules of the logic, `Given`, are an argument of each law.
 use mathlib.Core.Path.{_≡_, refl, ap}
 use Prim.Native.Nat.{ℕ}
 use mathlib.Core.List.{List, [], _∷_}

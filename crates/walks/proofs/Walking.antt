@@ -1,4 +1,56 @@
--- The words of a walk, from one place.
+-- The words of a walk, from one place, and how a walk is written. Open this file first.
+--
+-- No function with a parameter `&[Node]` or `&mut [Node]` is covered by the prover's own walk of the code, so the proof of each goes through its MIR by hand, one line to a statement.
+-- `rt mir CRATE` prints the MIR. `Values.antt` has the types of plain data, `Functions.antt` what a function takes, asks and says, `Calls.antt`, `Flow.antt` and `Locals.antt` the steps.
+--
+-- 1. The shapes that the source wants
+--   - The slices come first and then plain parameters: `&mut [R]`, or `&[R]`, or `&[R]` and then `&mut [D]`. What a function gives back is plain data: a number, a bool, `()`, a struct or an enum.
+--   - One `⌜ .. ⌝` in `requires`, or none, and one in `ensures`. Parts are joined with ×.
+--   - A `while` whose test is one statement: `i < count`, `best.found`. Read `out.len()` into a local before the loop.
+--   - An element is read by one function of the crate and written by one (`node_at`, `put_node`), and nowhere else; those two cite `reads-at` and `writes-at`. Elements of a slice of numbers are written by a covered function.
+--   - Rules and arithmetic stand in covered functions over a record by value, which a walk calls by `calls-plain`.
+--
+-- 2. What the author writes down, in the crate's proofs/Types.antt: each type of the crate, and each function as its callers see it. With T and T′ the type's module and its `Laws`:
+--        node′ : Kind
+--        node′ = struct′ T.the-type T′.the-laws T′.the-copy T′.the-plain                            (an enum: enum′ .. tt)
+--        touch′ : MutFn T.the-row
+--        touch′ = record { takes = usize′ ∷ f32′ ∷ []; gives = unit′; asks = that (λ xs a. a .0 < length xs); says = λ xs a _ zs. zs ≡ touchOf xs (a .0) (a .1 .0) }
+--   xs is the list on entry, zs at exit, a the row of plain arguments: a .0, a .1 .0, a .1 .1 .0, and so on. A `requires` that is not there is `asks = nothing-asked`.
+--   It must equal the contract by computation: write the same terms in the same order. Where the two differ, the line with `mut-proved`, or the one that calls the function, is refused.
+--
+-- 3. A walk, whole:
+--        pub fn insert(nodes: &mut [Node], count: usize, n: Node) -> usize { put_node(nodes, count, n); count + 1 }
+--
+--        insert-spec 𝓤 H 𝓜 𝓖 𝓡 =
+--            let 𝓣 = tablesOf 𝓤 H 𝓜 (tables 𝓤 H 𝓜 𝓡 code.env) in
+--            let puts = cited 𝓤 H _ 𝓜 𝓡 code.env put-node.name put-node.routine code.calls-tree·put-node (put-node-thm.met 𝓤 H 𝓜 𝓖 𝓡) in
+--            mut-proved 𝓤 H 𝓜 𝓖 𝓡 code.env insert.name code.function _ _ (code.unfolded 𝓤 H 𝓜 𝓡) insert′ refl (λ _ _ _ _ ty. ty) (λ S ys a are same pre bs Q return.
+--            let fits : a .0 + 1 < 2 ^ 64 = omega (arith, pre, same, S .room .0) in
+--            reborrows ! (S .room .0) refl refl refl refl refl refl refl refl $
+--            calls-mut 𝓣 S ys ! then put-node′ puts a are same pre (λ _ _. opd ! refl & opd ! refl & opd ! refl & no-more !) (λ _ zs _ ty same′ said. lands-in ! refl (ty .0) $
+--            sets ! (bin ! (opd ! refl) (lit ! tt) (record { fits = fits })) refl (tt, record { fits = fits }) $
+--            returns ! Q refl refl refl $ return _ zs (refl, fits) same′ (refl, said)))
+--
+--   with `unfolding code.routine tablesOf` above the equation, and `use` lines for the function's own `Key`, `Statement` and `Code` and for each callee's `Symbol` and `Met`.
+--   What the walk binds: S the slice (S .count, and S .room .0, that the count is below 2 ^ 64), ys its list, a the plain arguments, are what is known of them (are .0 .1 is the bound of a number),
+--   same that ys is as long as S .count, pre the `requires`, bs where the locals lie, Q what the caller waits for, return the way out. Over two slices it is `both-proved` and S O ys os a are same same-o pre bs Q return.
+--
+-- 4. The steps. A step reads what it needs of the context and leaves a context; `$` goes on. Locals are numbered as in the MIR, and a step finds the local that its statement names:
+--   no place is counted, and `refl` says that the local is there and holds what it should. What stands before the locals (the slices and their tokens) may be anything.
+--        _k = rvalue                  sets ! rvalue refl fits $                      sets-last, where it is the last statement of a block
+--        _k = f(..)                   calls-.. ! then f′ its-theorem arguments known same asked operands (λ r .. . lands-in ! refl (ty .0) $ ..)        last and lands-last, where the call ends a block
+--        _y = &(*_x.0), _z = [_y, _x.1]      reborrows ! (S .room .0) refl refl refl refl refl refl refl refl $
+--        if c { .. } else { .. } ..          forks, guards; decides at the end of a block
+--        while ..                     whiles 𝓣 (what stands at the test, in each state) (measure) (test) ! (λ _. refl) (λ _ _. (tt, tt)) (λ _ _. refl) (the test's rvalue) (a turn) (after the loop) (the first state)
+--        return                       returns ! Q refl refl refl $ return result ..  inside a branch or a loop the first `refl` is what they handed down: `out`, or `out′ ∙ out`
+--   An rvalue is `of-opd ! operand`, `bin ! operand operand checked`, `un ! operand checked` or `agg ! (operand & .. & no-more !)`; an operand `opd ! refl` for a local, `part ! refl refl refl refl` for a field of one, or `lit ! tt`.
+--   checked and fits are `tt` and `(tt, tt)` for a bool or a float, and with `record { fits = bound }` in the last place for a number. A value of a declared type fits by `ty .0` of the call that gave it, or by `lawful .. .typed` and `struct-is`, `enum-is`.
+--   A turn of a loop ends in `keeps ! n refl $ again state smaller`: n is the count of the locals that the state speaks of, the first n, and the others are forgotten.
+--   Of two slices, the one that `calls-mut` is to take is moved to the front, `move ! (2 ∷ 3 ∷ []) $`, and back after it.
+--
+-- 5. The loop's state is a record: what changes, and the invariant as its last fields. One turn and the end are laws of their own, over lists and numbers, above the walk.
+-- Not here: a local array that is lent as a slice, a `match` or a `loop` with `break` inside a walk, a walk over two `&mut`. Put those into a covered function.
+-- Assumes nothing. The rules of the logic, `Given`, are an argument of each law.
 pub use mathlib.Core.Path.{_≡_, refl, sym, ap, _∙_, subst}
 pub use Prim.Native.Nat.{ℕ, _+_, _-_, _<_, _≤_, _^_}
 pub use native.Mathlib.Omega.{arith}
