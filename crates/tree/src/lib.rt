@@ -1,6 +1,7 @@
 // The tree of tree.rs and simulator.rs: its records, and what is worked out of one record by value.
 mod best;
 mod node;
+mod records;
 mod soundness;
 
 pub use best::Best;
@@ -10,4 +11,6 @@ pub use node::Node;
 pub use node::check_score;
 pub use node::is_full;
 pub use node::touched;
+pub use records::node_at;
+pub use records::put_node;
 pub use soundness::is_sound_at;
