@@ -40,7 +40,9 @@
 --        _k = rvalue                  sets ! rvalue refl fits $                      sets-last, where it is the last statement of a block
 --        _k = f(..)                   calls-.. ! then f′ its-theorem arguments known same asked operands (λ r .. . lands-in ! refl (ty .0) $ ..)        last and lands-last, where the call ends a block
 --        _y = &(*_x.0), _z = [_y, _x.1]      reborrows ! (S .room .0) refl refl refl refl refl refl refl refl $
---        if c { .. } else { .. } ..          forks, guards; decides at the end of a block
+--        if c { .. } else { .. } ..          forks, guards; decides at the end of a block. An arm is (λ fact G out on. ..): it ends in a `return`, to which `out` leads, or goes on with what follows by `on _ $`
+--        if let X::Of(v) = _k { .. } ..      matches ! (tag ! refl refl refl refl) refl (λ G out on. ..), where the value of _k is known to be of one variant; an empty arm is `skips ! $ on _ $`, and v is read by `within ! refl refl refl refl refl refl refl`
+--                                     A call's result is made such a value by cases over what the callee says, with `lands-as ! (ap (k .val) fact) $` in front of `lands-in`
 --        while ..                     whiles 𝓣 (what stands at the test, in each state) (measure) (test) ! (λ _. refl) (λ _ _. (tt, tt)) (λ _ _. refl) (the test's rvalue) (a turn) (after the loop) (the first state)
 --        return                       returns ! Q refl refl refl $ return result ..  inside a branch or a loop the first `refl` is what they handed down: `out`, or `out′ ∙ out`
 --   An rvalue is `of-opd ! operand`, `bin ! operand operand checked`, `un ! operand checked` or `agg ! (operand & .. & no-more !)`; an operand `opd ! refl` for a local, `part ! refl refl refl refl` for a field of one, or `lit ! tt`.
@@ -49,7 +51,7 @@
 --   Of two slices, the one that `calls-mut` is to take is moved to the front, `move ! (2 ∷ 3 ∷ []) $`, and back after it.
 --
 -- 5. The loop's state is a record: what changes, and the invariant as its last fields. One turn and the end are laws of their own, over lists and numbers, above the walk.
--- Not here: a local array that is lent as a slice, a `match` or a `loop` with `break` inside a walk, a walk over two `&mut`. Put those into a covered function.
+-- Not here: a local array that is lent as a slice, a `loop` with `break` inside a walk, two `&mut` slices, a slice of structs inside a struct. Put those into a covered function.
 -- Assumes nothing. The rules of the logic, `Given`, are an argument of each law.
 pub use mathlib.Core.Path.{_≡_, refl, sym, ap, _∙_, subst}
 pub use Prim.Native.Nat.{ℕ, _+_, _-_, _<_, _≤_, _^_}
@@ -60,12 +62,13 @@ pub use lib.Dec.{ltb, leb, eqb, lit<}
 pub use borrow.Author.Tests.{ltb-true, ltb-false, leb-true, leb-false, not-true, not-false}
 pub use contract.Running.{givenOf, tables}
 pub use types.Kit.{_$_, !, ‵, move}
-pub use types.Run.{lit, float-lit, true-lit, false-lit, unit-lit, of-opd, bin, un, no-more}
+pub use types.Run.{skips, lit, float-lit, true-lit, false-lit, unit-lit, of-opd, bin, un, no-more}
 pub use types.Part.{agg}
 pub use denote.Triple.Table.{cited}
 pub use Rattle.walks.proofs.Values.{usize′, u8′, u32′, f32′, bool′, unit′}
 pub use Rattle.walks.proofs.Locals.{none, has, holding, env, opd, part, _&_, sets, sets-last, lands-in, lands-last, keeps, returns}
 pub use Rattle.walks.proofs.Flow.{decides, forks, guards, whiles}
+pub use Rattle.walks.proofs.Enums.{lands-as, tag, within, matches}
 pub use Rattle.walks.proofs.Reborrow.{reborrows}
 pub use Rattle.walks.proofs.Elements.{reads-at, writes-at}
 pub use Rattle.walks.proofs.Lend.{fat, Own, Shr, Tok}
