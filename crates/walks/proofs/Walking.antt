@@ -32,6 +32,7 @@
 --            returns ! Q refl refl refl $ return _ zs (refl, fits) same′ (refl, said)))
 --
 --   with `unfolding code.routine tablesOf` above the equation, and `use` lines for the function's own `Key`, `Statement` and `Code` and for each callee's `Symbol` and `Met`.
+--   A function or a type of another crate is named through that crate's facade: `Rattle.refusal.proofs.check_room.Met`, `code.calls-refusal·check-room`, `Rattle.refusal.proofs.Checked.Laws`.
 --   What the walk binds: S the slice (S .count, and S .room .0, that the count is below 2 ^ 64), ys its list, a the plain arguments, are what is known of them (are .0 .1 is the bound of a number),
 --   same that ys is as long as S .count, pre the `requires`, bs where the locals lie, Q what the caller waits for, return the way out. Over two slices it is `both-proved` and S O ys os a are same same-o pre bs Q return.
 --
