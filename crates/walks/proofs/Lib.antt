@@ -5,6 +5,7 @@ pub mod Values
 pub mod Functions
 pub mod Locals
 pub mod Flow
+pub mod Enums
 pub mod Lend
 pub mod Reborrow
 pub mod Elements

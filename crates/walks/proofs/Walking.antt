@@ -32,24 +32,30 @@
 --            returns ! Q refl refl refl $ return _ zs (refl, fits) same′ (refl, said)))
 --
 --   with `unfolding code.routine tablesOf` above the equation, and `use` lines for the function's own `Key`, `Statement` and `Code` and for each callee's `Symbol` and `Met`.
+--   A function or a type of another crate is named through that crate's facade: `Rattle.refusal.proofs.check_room.Met`, `code.calls-refusal·check-room`, `Rattle.refusal.proofs.Checked.Laws`.
 --   What the walk binds: S the slice (S .count, and S .room .0, that the count is below 2 ^ 64), ys its list, a the plain arguments, are what is known of them (are .0 .1 is the bound of a number),
 --   same that ys is as long as S .count, pre the `requires`, bs where the locals lie, Q what the caller waits for, return the way out. Over two slices it is `both-proved` and S O ys os a are same same-o pre bs Q return.
 --
 -- 4. The steps. A step reads what it needs of the context and leaves a context; `$` goes on. Locals are numbered as in the MIR, and a step finds the local that its statement names:
---   no place is counted, and `refl` says that the local is there and holds what it should. What stands before the locals (the slices and their tokens) may be anything.
+--   no place is counted, and `refl` says that the local is there and holds what it should. What stands before the locals, the slices and their tokens, is passed over.
 --        _k = rvalue                  sets ! rvalue refl fits $                      sets-last, where it is the last statement of a block
---        _k = f(..)                   calls-.. ! then f′ its-theorem arguments known same asked operands (λ r .. . lands-in ! refl (ty .0) $ ..)        last and lands-last, where the call ends a block
+--        _k = f(_x, ..)               calls-mut 𝓣 S ys ! then f′ theorem arguments known same asked (λ _ _. operands) (λ r zs is ty same′ said. lands-in ! refl (ty .0) $ ..)        last and lands-last, where the call ends a block
+--                                     calls-shared, of a `&mut` lent as `&`, and calls-shr, of a `&`: the same with (λ r is ty said. ..)
+--                                     calls-both 𝓣 S ys ! O os then f′ theorem arguments known same same-o asked (λ _ _. operands) (λ r zs is ty same′ said. ..)
+--                                     calls-plain ! 𝓣 then f′ theorem arguments known asked (λ _. operands) (λ r is ty said. ..)
 --        _y = &(*_x.0), _z = [_y, _x.1]      reborrows ! (S .room .0) refl refl refl refl refl refl refl refl $
---        if c { .. } else { .. } ..          forks, guards; decides at the end of a block
+--        if c { .. } else { .. } ..          forks, guards; decides at the end of a block. An arm is (λ fact G out on. ..): it ends in a `return`, to which `out` leads, or goes on with what follows by `on _ $`
+--        if let X::Of(v) = _k { .. } ..      matches ! (tag ! refl refl refl refl) refl (λ G out on. ..), where the value of _k is known to be of one variant; an empty arm is `skips ! $ on _ $`, and v is read by `within ! refl refl refl refl refl refl refl`
+--                                     A call's result is made such a value by cases over what the callee says, with `lands-as ! (ap (k .val) fact) $` in front of `lands-in`
 --        while ..                     whiles 𝓣 (what stands at the test, in each state) (measure) (test) ! (λ _. refl) (λ _ _. (tt, tt)) (λ _ _. refl) (the test's rvalue) (a turn) (after the loop) (the first state)
 --        return                       returns ! Q refl refl refl $ return result ..  inside a branch or a loop the first `refl` is what they handed down: `out`, or `out′ ∙ out`
 --   An rvalue is `of-opd ! operand`, `bin ! operand operand checked`, `un ! operand checked` or `agg ! (operand & .. & no-more !)`; an operand `opd ! refl` for a local, `part ! refl refl refl refl` for a field of one, or `lit ! tt`.
---   checked and fits are `tt` and `(tt, tt)` for a bool or a float, and with `record { fits = bound }` in the last place for a number. A value of a declared type fits by `ty .0` of the call that gave it, or by `lawful .. .typed` and `struct-is`, `enum-is`.
+--   checked and fits are `tt` and `(tt, tt)` for a bool, and `record { fits = bound }` and `(tt, record { fits = bound })` for a number. A value of a declared type fits by `ty .0` of the call that gave it, or by `lawful .. .typed` and `struct-is`, `enum-is`.
 --   A turn of a loop ends in `keeps ! n refl $ again state smaller`: n is the count of the locals that the state speaks of, the first n, and the others are forgotten.
 --   Of two slices, the one that `calls-mut` is to take is moved to the front, `move ! (2 ∷ 3 ∷ []) $`, and back after it.
 --
 -- 5. The loop's state is a record: what changes, and the invariant as its last fields. One turn and the end are laws of their own, over lists and numbers, above the walk.
--- Not here: a local array that is lent as a slice, a `match` or a `loop` with `break` inside a walk, a walk over two `&mut`. Put those into a covered function.
+-- Not here: a local array that is lent as a slice, a `loop` with `break` inside a walk, two `&mut` slices, a slice of structs inside a struct. Put those into a covered function.
 -- Assumes nothing. The rules of the logic, `Given`, are an argument of each law.
 pub use mathlib.Core.Path.{_≡_, refl, sym, ap, _∙_, subst}
 pub use Prim.Native.Nat.{ℕ, _+_, _-_, _<_, _≤_, _^_}
@@ -60,12 +66,13 @@ pub use lib.Dec.{ltb, leb, eqb, lit<}
 pub use borrow.Author.Tests.{ltb-true, ltb-false, leb-true, leb-false, not-true, not-false}
 pub use contract.Running.{givenOf, tables}
 pub use types.Kit.{_$_, !, ‵, move}
-pub use types.Run.{lit, float-lit, true-lit, false-lit, unit-lit, of-opd, bin, un, no-more}
+pub use types.Run.{skips, lit, float-lit, true-lit, false-lit, unit-lit, of-opd, bin, un, no-more}
 pub use types.Part.{agg}
 pub use denote.Triple.Table.{cited}
 pub use Rattle.walks.proofs.Values.{usize′, u8′, u32′, f32′, bool′, unit′}
 pub use Rattle.walks.proofs.Locals.{none, has, holding, env, opd, part, _&_, sets, sets-last, lands-in, lands-last, keeps, returns}
 pub use Rattle.walks.proofs.Flow.{decides, forks, guards, whiles}
+pub use Rattle.walks.proofs.Enums.{lands-as, tag, within, matches}
 pub use Rattle.walks.proofs.Reborrow.{reborrows}
 pub use Rattle.walks.proofs.Elements.{reads-at, writes-at}
 pub use Rattle.walks.proofs.Lend.{fat, Own, Shr, Tok}
