@@ -2,6 +2,7 @@
 mod best;
 mod node;
 mod records;
+mod scan;
 mod soundness;
 
 pub use best::Best;
@@ -13,4 +14,5 @@ pub use node::is_full;
 pub use node::touched;
 pub use records::node_at;
 pub use records::put_node;
+pub use scan::is_sound;
 pub use soundness::is_sound_at;
