@@ -13,3 +13,5 @@ pub mod ChildrenLaws
 pub mod Refusals
 pub mod Kept
 pub mod Worked
+pub mod Grow
+pub mod GrowLaws

@@ -1,16 +1,25 @@
 // The tree of tree.rs and simulator.rs: its records, and what is worked out of one record by value.
 mod best;
+mod grow;
 mod node;
 mod records;
+mod scan;
 mod soundness;
 
 pub use best::Best;
 pub use best::is_child;
 pub use best::pick;
+pub use grow::Inserted;
+pub use grow::Planted;
+pub use grow::Recorded;
+pub use grow::insert;
+pub use grow::plant;
+pub use grow::record_at;
 pub use node::Node;
 pub use node::check_score;
 pub use node::is_full;
 pub use node::touched;
 pub use records::node_at;
 pub use records::put_node;
+pub use scan::is_sound;
 pub use soundness::is_sound_at;
