@@ -1,3 +1,5 @@
 -- What several proofs share.
 -- Assumes nothing.
 pub mod Types
+pub mod TypesBack
+pub mod Turns

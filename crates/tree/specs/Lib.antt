@@ -11,5 +11,6 @@ pub mod SolutionLaws
 pub mod BestLaws
 pub mod ChildrenLaws
 pub mod Refusals
+pub mod Back
 pub mod Kept
 pub mod Worked

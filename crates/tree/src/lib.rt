@@ -1,5 +1,6 @@
 // The tree of tree.rs and simulator.rs: its records, and what is worked out of one record by value.
 mod best;
+mod climb;
 mod node;
 mod records;
 mod soundness;
@@ -7,6 +8,9 @@ mod soundness;
 pub use best::Best;
 pub use best::is_child;
 pub use best::pick;
+pub use climb::Survey;
+pub use climb::survey_path;
+pub use climb::touch_path;
 pub use node::Node;
 pub use node::check_score;
 pub use node::is_full;
