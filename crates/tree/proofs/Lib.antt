@@ -3,3 +3,4 @@
 pub mod Types
 pub mod TypesBack
 pub mod Turns
+pub mod TypesGrow
