@@ -92,17 +92,17 @@ module _ (nodes : List Node) (count start target : ℕ) (score : Float) where
 
     pub back-stops : isPassed checked ≡ false → checked ≡ checksOf (backTests nodes count start target score)
     unfolding restTests
-    back-stops no = go checked no ends
+    back-stops fell = go checked fell ends
       where
         go : (c : Checked) → isPassed c ≡ false → c ≡ checksOf (endTests (isSound nodes count) count start target) → c ≡ checksOf (backTests nodes count start target score)
-        go Passed no f = absurd (true-false no)
-        go (Refused x) no f = checks-stop-by (endTests (isSound nodes count) count start target) restTests f refl
+        go Passed fell f = absurd (true-false fell)
+        go (Refused x) fell f = checks-stop-by (endTests (isSound nodes count) count start target) restTests f refl
 
-    module _ (yes : isPassed checked ≡ true) where
+    module _ (held : isPassed checked ≡ true) where
       -- the way may be walked
       pub back-climbs : Climbs nodes start
       back-climbs =
-          let p = passed checked yes in
+          let p = passed checked held in
           let tree = shown (treeTest nodes count) _ ends p in
           let from = shown (nodeTest count start) _ (tree .1) p in
           climbs-of start (tree-of (tree .0)) (ltb-true start count (from .0))
@@ -110,7 +110,7 @@ module _ (nodes : List Node) (count start target : ℕ) (score : Float) where
       -- and what the survey found decides
       pub back-goes-on : {survey : Survey} {r : Checked} → Surveys nodes start target survey → r ≡ checksOf (wayTests survey score) → r ≡ checksOf (backTests nodes count start target score)
       unfolding restTests judged
-      back-goes-on {survey} s f = checks-on-by (endTests (isSound nodes count) count start target) restTests ends (passed checked yes) (f ∙ same (survey .above) refl (s .above) (s .full))
+      back-goes-on {survey} s f = checks-on-by (endTests (isSound nodes count) count start target) restTests ends (passed checked held) (f ∙ same (survey .above) refl (s .above) (s .full))
         where
           same : (b : Bool) → survey .above ≡ b → survey .above ≡ isAbove nodes start target → (survey .above ≡ true → survey .full ≡ anyFull nodes (pathOf nodes start target)) → checksOf (wayTests survey score) ≡ checksOf restTests
           same true q above full = rw (sym above, q, full q)
@@ -120,23 +120,23 @@ module _ (nodes : List Node) (count start target : ℕ) (score : Float) where
 
   module _ {checked : Checked} (e : checked ≡ checksOf (backTests nodes count start target score)) where
     pub back-reaches-target : isPassed checked ≡ true → Reaches nodes start target
-    back-reaches-target yes =
-        let p = passed checked yes in
+    back-reaches-target held =
+        let p = passed checked held in
         let tree = shown (treeTest nodes count) _ e p in
         let from = shown (nodeTest count start) _ (tree .1) p in
         let to = shown (nodeTest count target) _ (from .1) p in
         record { climbs = climbs-of start (tree-of (tree .0)) (ltb-true start count (from .0)); above = shown (aboveTest nodes start target) _ (to .1) p .0 }
 
     pub back-done : {r : Propagated} {after : List Node} → isPassed checked ≡ true → after ≡ backOf nodes start target score → r ≡ answerOf checked → Propagates nodes count start target score r after
-    back-done yes wrote is = rw (wrote, is) (go checked yes e)
+    back-done held wrote is = rw (wrote, is) (go checked held e)
       where
         go : (c : Checked) → isPassed c ≡ true → c ≡ checksOf (backTests nodes count start target score) → Propagates nodes count start target score (answerOf c) (backOf nodes start target score)
-        go Passed yes f = record { says = record { number = judged-passed reportOf success _ f; same = judged-passed P.Refused P.Done _ f }; records = judged-passed (λ x. nodes) _ _ f }
-        go (Refused x) yes f = absurd (true-false (sym yes))
+        go Passed held f = record { says = record { number = judged-passed reportOf success _ f; same = judged-passed P.Refused P.Done _ f }; records = judged-passed (λ x. nodes) _ _ f }
+        go (Refused x) held f = absurd (true-false (sym held))
 
     pub back-refused : {r : Propagated} → isPassed checked ≡ false → r ≡ answerOf checked → Propagates nodes count start target score r nodes
-    back-refused no is = rw is (go checked no e)
+    back-refused fell is = rw is (go checked fell e)
       where
         go : (c : Checked) → isPassed c ≡ false → c ≡ checksOf (backTests nodes count start target score) → Propagates nodes count start target score (answerOf c) nodes
-        go Passed no f = absurd (true-false no)
-        go (Refused x) no f = record { says = record { number = judged-refused reportOf success _ f; same = judged-refused P.Refused P.Done _ f }; records = judged-refused (λ y. nodes) _ _ f }
+        go Passed fell f = absurd (true-false fell)
+        go (Refused x) fell f = record { says = record { number = judged-refused reportOf success _ f; same = judged-refused P.Refused P.Done _ f }; records = judged-refused (λ y. nodes) _ _ f }
