@@ -86,11 +86,15 @@ module _ (nodes : List Node) (start target : ℕ) (score : Float) (reaches : Rea
         rest = sym (back-up now (start + 1) target (falls-still w) k score l (w .on)) ∙ w .rest;
       }
 
-  pub write-ends : {now : List Node} {k : ℕ} → Writing nodes start target score now k → k ≤ target → touchedAt now k score ≡ backOf nodes start target score
-  write-ends {now} {k} w l = here (eqb k target) refl ∙ w .rest
+  -- the way ends at the target
+  pub write-arrives : {now : List Node} {k : ℕ} → Writing nodes start target score now k → k ≤ target → k ≡ target
+  write-arrives {now} {k} w l = go (eqb k target) refl
     where
-      here : (b : Bool) → eqb k target ≡ b → touchedAt now k score ≡ backOf now k target score
-      here true e = rw (eqb-true k target e) (sym (back-here now (start + 1) target (falls-still w) score))
-      here false e =
+      go : (b : Bool) → eqb k target ≡ b → k ≡ target
+      go true e = eqb-true k target e
+      go false e =
           let other : k ≡ target → ⊥ = eqb-false k target e in
           absurd (true-false (sym (w .above) ∙ above-not nodes (start + 1) target (reaches .climbs .falls) k (omega arith) (w .on)))
+
+  pub write-ends : {now : List Node} {k : ℕ} → Writing nodes start target score now k → k ≡ target → touchedAt now target score ≡ backOf nodes start target score
+  write-ends {now} {k} w e = sym (back-here now (start + 1) target (falls-still w) score) ∙ ap (λ (j : ℕ). backOf now j target score) (sym e) ∙ w .rest

@@ -60,6 +60,7 @@ fn touch(nodes: &mut [Node], k: usize, score: f32)
     put_node(nodes, k, m);
 }
 
+// The way comes by the target, so it ends there.
 pub fn touch_path(nodes: &mut [Node], start: usize, target: usize, score: f32)
     requires { ⌜ Reaches (now nodes) start target ⌝ }
     ensures { λ _. ⌜ now (nodes .exit) ≡ backOf (now (nodes .entry)) start target score ⌝ }
@@ -70,5 +71,5 @@ pub fn touch_path(nodes: &mut [Node], start: usize, target: usize, score: f32)
         touch(nodes, k, score);
         k = n.parent;
     }
-    touch(nodes, k, score);
+    touch(nodes, target, score);
 }

@@ -5,8 +5,8 @@ use lib.ListN.{length}
 use contract.Running.{tablesOf}
 use Rattle.tree.specs.declared.node.Node.{Node}
 use Rattle.tree.specs.Tree.{nodeAt, touchedAt}
-use Rattle.tree.proofs.Turns.{Writing, write-starts, write-turns, write-falls, write-ends}
-use Rattle.walks.proofs.Walking.{refl, sym, _∙_, subst, ℕ, _<_, _^_, arith, List, [], _∷_, ltb, ltb-true, ltb-false, tables, _$_, !, unit-lit, of-opd, bin, no-more, cited, usize′, f32′, none, has, holding, env, opd, part, _&_, sets, sets-last, lands-in, keeps, returns, whiles, reborrows, fat, Own, Tok, then, calls-mut, calls-shared, mut-proved}
+use Rattle.tree.proofs.Turns.{Writing, write-starts, write-turns, write-falls, write-arrives, write-ends}
+use Rattle.walks.proofs.Walking.{_≡_, refl, sym, _∙_, subst, ℕ, _<_, _^_, arith, List, [], _∷_, ltb, ltb-true, ltb-false, tables, _$_, !, unit-lit, of-opd, bin, no-more, cited, usize′, f32′, none, has, holding, env, opd, part, _&_, sets, sets-last, lands-in, keeps, returns, whiles, reborrows, fat, Own, Tok, then, calls-mut, calls-shared, mut-proved}
 use Rattle.tree.proofs.Types.{node-at′}
 use Rattle.tree.proofs.TypesBack.{parent-fits, touch′, touch-path′}
 use Rattle.tree.proofs.records.node_at.Symbol as node-at
@@ -54,8 +54,9 @@ touch-path-spec 𝓤 H 𝓜 𝓖 𝓡 =
       inv = subst (λ (xs : List Node). Writing ys start target score xs (n .parent)) (sym said) (subst (λ (m : Node). Writing ys start target score (touchedAt (x .now) (x .k) score) (m .parent)) (sym n-said) (write-turns ys start target score pre (x .inv) less));
     }) up)))
     (λ x over.
+    let there : x .k ≡ target = write-arrives ys start target score pre (x .inv) (ltb-false target (x .k) over) in
     reborrows ! (S .room .0) refl refl refl refl refl refl refl refl $
-    calls-mut 𝓣 S (x .now) ! then touch′ touches (x .k, (score, tt)) ((refl, omega (arith, x .inv .on, are .0 .1)), (are .1 .1 .0, tt)) (x .inv .long ∙ same) (omega (arith, x .inv .on, x .inv .long, pre .climbs .room)) (λ _ _. opd ! refl & opd ! refl & opd ! refl & no-more !) (λ _ zs _ ty same′ said. lands-in ! refl (ty .0) $
+    calls-mut 𝓣 S (x .now) ! then touch′ touches (a .1) (are .1) (x .inv .long ∙ same) (omega (arith, there, x .inv .on, x .inv .long, pre .climbs .room)) (λ _ _. opd ! refl & opd ! refl & opd ! refl & no-more !) (λ _ zs _ ty same′ said. lands-in ! refl (ty .0) $
     sets ! (of-opd ! (unit-lit !)) refl (tt, tt) $ returns ! Q refl refl refl $
-    return tt zs refl same′ (said ∙ write-ends ys start target score pre (x .inv) (ltb-false target (x .k) over))))
+    return tt zs refl same′ (said ∙ write-ends ys start target score pre (x .inv) there)))
     (record { k = start; now = ys; inv = write-starts ys start target score pre }))
