@@ -1,4 +1,6 @@
 -- What several proofs share.
 -- Assumes nothing.
 pub mod Types
+pub mod TypesBack
+pub mod Turns
 pub mod TypesGrow

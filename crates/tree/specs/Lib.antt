@@ -11,6 +11,8 @@ pub mod SolutionLaws
 pub mod BestLaws
 pub mod ChildrenLaws
 pub mod Refusals
+pub mod Back
+pub mod EntryLaws
 pub mod Kept
 pub mod Worked
 pub mod Grow

@@ -1,11 +1,15 @@
 // The tree of tree.rs and simulator.rs: its records, and what is worked out of one record by value.
+mod back;
 mod best;
 mod grow;
+mod climb;
 mod node;
 mod records;
 mod scan;
 mod soundness;
 
+pub use back::Propagated;
+pub use back::backpropagate;
 pub use best::Best;
 pub use best::is_child;
 pub use best::pick;
@@ -15,6 +19,9 @@ pub use grow::Recorded;
 pub use grow::insert;
 pub use grow::plant;
 pub use grow::record_at;
+pub use climb::Survey;
+pub use climb::survey_path;
+pub use climb::touch_path;
 pub use node::Node;
 pub use node::check_score;
 pub use node::is_full;
