@@ -1,5 +1,6 @@
 // The tree of tree.rs and simulator.rs: its records, and what is worked out of one record by value.
 mod best;
+mod descend;
 mod node;
 mod records;
 mod soundness;
@@ -7,6 +8,7 @@ mod soundness;
 pub use best::Best;
 pub use best::is_child;
 pub use best::pick;
+pub use descend::best_child;
 pub use node::Node;
 pub use node::check_score;
 pub use node::is_full;
