@@ -8,6 +8,7 @@ pub mod TreeLaws
 pub mod PathLaws
 pub mod BackLaws
 pub mod SolutionLaws
+pub mod DescentLaws
 pub mod BestLaws
 pub mod ChildrenLaws
 pub mod Refusals

@@ -1,15 +1,15 @@
 -- `tree::descend::best_child` meets its contract: a walk of its MIR, by hand. The loop's state is the index and the best so far.
 -- Assumes nothing.
 use native.Mathlib.Nat.{le-antisymm}
-use native.Mathlib.Numerals.{add-one}
 use contract.Running.{tablesOf}
 use denote.Laws.{Is}
 use Rattle.tree.specs.declared.node.Node.{Node}
 use Rattle.tree.specs.declared.best.Best.{Best}
-use Rattle.tree.specs.Best.{noBest, pickOf}
+use Rattle.tree.specs.Best.{pickOf}
 use Rattle.tree.specs.Tree.{nodeAt, bestTo}
+use Rattle.tree.specs.SolutionLaws.{best-none, best-next}
 use Rattle.tree.proofs.best.Best as B
-use Rattle.walks.proofs.Walking.{_≡_, refl, sym, ap, _∙_, ℕ, _+_, _-_, _<_, _≤_, _^_, arith, List, [], _∷_, ltb, lit<, ltb-true, ltb-false, givenOf, tables, _$_, !, lit, of-opd, bin, no-more, cited, usize′, none, has, holding, env, opd, _&_, sets, sets-last, lands-in, keeps, returns, whiles, fat, Shr, Tok, then, calls-shr, calls-plain, shr-proved}
+use Rattle.walks.proofs.Walking.{_≡_, refl, ap, _∙_, ℕ, _+_, _-_, _<_, _≤_, _^_, arith, List, [], _∷_, ltb, lit<, ltb-true, ltb-false, givenOf, tables, _$_, !, lit, of-opd, bin, no-more, cited, usize′, none, has, holding, env, opd, _&_, sets, sets-last, lands-in, keeps, returns, whiles, fat, Shr, Tok, then, calls-shr, calls-plain, shr-proved}
 use Rattle.tree.proofs.Types.{node-at′}
 use Rattle.tree.proofs.TypesPaths.{best′, none′, pick′, best-child′}
 use Rattle.tree.proofs.best.Best.none.Symbol as none-yet
@@ -29,13 +29,8 @@ record State (xs : List Node) (n p : ℕ) : Type 0 where
   best-is : Is B.the-row best (best′ .val best ∷ [])
   found : best ≡ bestTo i xs p
 
-at-first : (xs : List Node) (p : ℕ) (b : Best) → b ≡ noBest → b ≡ bestTo 0 xs p
-unfolding bestTo
-at-first xs p b e = e
-
-one-more : (xs : List Node) (i p : ℕ) (b c : Best) (m : Node) → c ≡ bestTo i xs p → m ≡ nodeAt xs i → b ≡ pickOf c i m p → b ≡ bestTo (i + 1) xs p
-unfolding bestTo
-one-more xs i p b c m e f g = rw add-one (g ∙ ap (λ (c : Best). pickOf c i m p) e ∙ ap (λ (y : Node). pickOf (bestTo i xs p) i y p) f)
+one-more : (xs : List Node) (i p : ℕ) {b c : Best} {m : Node} → c ≡ bestTo i xs p → m ≡ nodeAt xs i → b ≡ pickOf c i m p → b ≡ bestTo (i + 1) xs p
+one-more xs i p e f g = rw (e, f) at g ∙ best-next i xs p
 
 pub best-child-spec : {M : Type 1} → stated.statement M
 unfolding code.routine tablesOf
@@ -66,9 +61,9 @@ best-child-spec 𝓤 H 𝓜 𝓖 𝓡 =
       best = b;
       within = omega (arith, less);
       best-is = b-is;
-      found = one-more ys (x .i) p b (x .best) m (x .found) m-said b-said;
+      found = one-more ys (x .i) p (x .found) m-said b-said;
     }) (omega (arith, less)))))
     (λ x over.
     sets ! (of-opd ! (opd ! refl)) refl (typed (x .best) _ (x .best-is) .0) $ returns ! Q refl refl refl $
     return (x .best) (x .best-is) (x .found ∙ ap (λ (k : ℕ). bestTo k ys p) (le-antisymm (x .within) (ltb-false (x .i) n over))))
-    (record { i = 0; best = b₀; within = omega arith; best-is = b₀-is; found = at-first ys p b₀ b₀-said })))
+    (record { i = 0; best = b₀; within = omega arith; best-is = b₀-is; found = b₀-said ∙ best-none ys p })))
