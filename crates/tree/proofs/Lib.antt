@@ -1,4 +1,6 @@
 -- What several proofs share.
 -- Assumes nothing.
 pub mod Types
+pub mod TypesGrow
 pub mod TypesPaths
+pub mod TypesEntries

@@ -12,5 +12,7 @@ pub mod DescentLaws
 pub mod BestLaws
 pub mod ChildrenLaws
 pub mod Refusals
+pub mod Paths
+pub mod PathsLaws
 pub mod Kept
 pub mod Worked

@@ -1,23 +1,30 @@
 // The tree of tree.rs and simulator.rs: its records, and what is worked out of one record by value.
 mod best;
-mod children;
 mod descend;
+mod listing;
 mod node;
+mod paths;
 mod records;
+mod scan;
 mod soundness;
 
 pub use best::Best;
 pub use best::is_child;
 pub use best::pick;
-pub use children::count_children;
-pub use children::put_children;
 pub use descend::best_child;
 pub use descend::put_solution;
 pub use descend::solution_len;
+pub use listing::count_children;
+pub use listing::put_children;
 pub use node::Node;
 pub use node::check_score;
 pub use node::is_full;
 pub use node::touched;
+pub use paths::Listed;
+pub use paths::Solved;
+pub use paths::children;
+pub use paths::solution;
 pub use records::node_at;
 pub use records::put_node;
+pub use scan::is_sound;
 pub use soundness::is_sound_at;

@@ -1,9 +1,9 @@
--- `tree::children::put_index` meets its contract.
+-- `tree::listing::put_index` meets its contract.
 -- Assumes nothing.
 use borrow.Author.Needs.{needs}
 use Rattle.text.specs.OverLaws.{put-one}
-use Rattle.tree.proofs.children.put_index.Statement.{statement}
-use Rattle.tree.proofs.children.put_index.Tie as tie
+use Rattle.tree.proofs.listing.put_index.Statement.{statement}
+use Rattle.tree.proofs.listing.put_index.Tie as tie
 
 pub put-index-spec : {M : Type 1} → statement M
 put-index-spec =

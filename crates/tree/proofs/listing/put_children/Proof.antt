@@ -1,4 +1,4 @@
--- `tree::children::put_children` meets its contract: a walk of its MIR, by hand, over two slices. The loop's state is the place, the index and the numbers.
+-- `tree::listing::put_children` meets its contract: a walk of its MIR, by hand, over two slices. The loop's state is the place, the index and the numbers.
 -- Assumes nothing.
 use native.Mathlib.Nat.{le-antisymm, zero-add}
 use lib.ListN.{length, length-append}
@@ -16,11 +16,11 @@ use Rattle.tree.proofs.records.node_at.Symbol as node-at
 use Rattle.tree.proofs.records.node_at.Met as node-at-thm
 use Rattle.tree.proofs.best.is_child.Symbol as is-child
 use Rattle.tree.proofs.best.is_child.Met as is-child-thm
-use Rattle.tree.proofs.children.put_index.Symbol as put-index
-use Rattle.tree.proofs.children.put_index.Met as put-index-thm
-use Rattle.tree.proofs.children.put_children.Key as put-children
-use Rattle.tree.proofs.children.put_children.Statement as stated
-use Rattle.tree.proofs.children.put_children.Code as code
+use Rattle.tree.proofs.listing.put_index.Symbol as put-index
+use Rattle.tree.proofs.listing.put_index.Met as put-index-thm
+use Rattle.tree.proofs.listing.put_children.Key as put-children
+use Rattle.tree.proofs.listing.put_children.Statement as stated
+use Rattle.tree.proofs.listing.put_children.Code as code
 
 record State (xs : List Node) (n p : ℕ) (os : List ℕ) : Type 0 where
   i : ℕ
@@ -60,7 +60,7 @@ put-children-spec 𝓤 H 𝓜 𝓖 𝓡 =
     let 𝓣 = tablesOf 𝓤 H 𝓜 (tables 𝓤 H 𝓜 𝓡 code.env) in
     let reads = cited 𝓤 H _ 𝓜 𝓡 code.env node-at.name node-at.routine code.calls-tree·records·node-at (node-at-thm.met 𝓤 H 𝓜 𝓖 𝓡) in
     let asks = cited 𝓤 H _ 𝓜 𝓡 code.env is-child.name is-child.routine code.calls-tree·best·is-child (is-child-thm.met 𝓤 H 𝓜 𝓖 𝓡) in
-    let puts = cited 𝓤 H _ 𝓜 𝓡 code.env put-index.name put-index.routine code.calls-tree·children·put-index (put-index-thm.met 𝓤 H 𝓜 𝓖 𝓡) in
+    let puts = cited 𝓤 H _ 𝓜 𝓡 code.env put-index.name put-index.routine code.calls-tree·listing·put-index (put-index-thm.met 𝓤 H 𝓜 𝓖 𝓡) in
     both-proved 𝓤 H 𝓜 𝓖 𝓡 code.env put-children.name code.function _ _ (code.unfolded 𝓤 H 𝓜 𝓡) put-children′ refl (λ _ _ _ _ _ _ ty. ty) (λ S O ys os a are same same-o pre bs Q return.
     let n : ℕ = a .0 in
     let p : ℕ = a .1 .0 in

@@ -1,4 +1,4 @@
--- `tree::children::count_children` meets its contract: a walk of its MIR, by hand. The loop's state is the count and the index; the two ways of its branch meet again.
+-- `tree::listing::count_children` meets its contract: a walk of its MIR, by hand. The loop's state is the count and the index; the two ways of its branch meet again.
 -- Assumes nothing.
 use native.Mathlib.Nat.{le-antisymm}
 use lib.ListN.{length, length-append}
@@ -14,9 +14,9 @@ use Rattle.tree.proofs.records.node_at.Symbol as node-at
 use Rattle.tree.proofs.records.node_at.Met as node-at-thm
 use Rattle.tree.proofs.best.is_child.Symbol as is-child
 use Rattle.tree.proofs.best.is_child.Met as is-child-thm
-use Rattle.tree.proofs.children.count_children.Key as count-children
-use Rattle.tree.proofs.children.count_children.Statement as stated
-use Rattle.tree.proofs.children.count_children.Code as code
+use Rattle.tree.proofs.listing.count_children.Key as count-children
+use Rattle.tree.proofs.listing.count_children.Statement as stated
+use Rattle.tree.proofs.listing.count_children.Code as code
 
 record State (xs : List Node) (n p : ℕ) : Type 0 where
   i : ℕ
