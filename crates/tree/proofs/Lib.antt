@@ -4,3 +4,5 @@ pub mod Types
 pub mod TypesBack
 pub mod Turns
 pub mod TypesGrow
+pub mod TypesPaths
+pub mod TypesEntries
