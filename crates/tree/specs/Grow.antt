@@ -4,7 +4,6 @@ use mathlib.Core.Path.{_≡_, refl}
 use mathlib.Core.Bool.{Bool, true, false}
 use mathlib.Core.List.{List, [], _∷_}
 use Prim.Native.Nat.{ℕ, _+_}
-use lib.ListN.{length}
 use Rattle.refusal.specs.declared.Report.{Report}
 use Rattle.refusal.specs.declared.Refusal.the-variants.{UnsoundTree}
 use Rattle.refusal.specs.Report.{reportOf, success}
