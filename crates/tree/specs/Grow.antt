@@ -4,7 +4,6 @@ use mathlib.Core.Path.{_≡_, refl}
 use mathlib.Core.Bool.{Bool, true, false}
 use mathlib.Core.List.{List, [], _∷_}
 use Prim.Native.Nat.{ℕ, _+_}
-use lib.ListN.{length}
 use Rattle.refusal.specs.declared.Report.{Report}
 use Rattle.refusal.specs.declared.Refusal.the-variants.{UnsoundTree}
 use Rattle.refusal.specs.Report.{reportOf, success}
@@ -43,7 +42,7 @@ recordedTold (R.Refused x) = reportOf x
 abbrev pub recorded : Kind Recorded
 recorded = record { told = recordedTold; refused = R.Refused; refusing = λ x. refl }
 
--- ---- the answers, of numbers alone
+-- ---- the answers, before any record is touched
 
 abbrev pub isPlanted : Planted → Bool
 isPlanted (P.Count n) = true
@@ -57,7 +56,7 @@ isInserted (I.Refused x) = false
 abbrev pub newCount : ℕ
 newCount = 1
 
--- the tests of insertion, of a tree that was scanned
+-- refusal 7, by what the scan found
 abbrev pub scannedTest : Bool → Test
 scannedTest sound = record { passed = sound; otherwise = UnsoundTree }
 

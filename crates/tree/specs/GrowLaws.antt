@@ -10,7 +10,7 @@ use borrow.Author.Tests.{leb-true}
 use Rattle.refusal.specs.declared.Refusal.{Refusal}
 use Rattle.refusal.specs.declared.Checked.the-variants.{Passed, Refused}
 use Rattle.refusal.specs.Judge.{Test, judged, checksOf, roomTest, Kind, Says}
-use Rattle.refusal.specs.JudgeLaws.{shown, stopped, onward, judged-passed}
+use Rattle.refusal.specs.JudgeLaws.{shown, stopped, onward, judged-passed, one-answer}
 use Rattle.laws.specs.Tests.{true-false}
 use Rattle.action.specs.Known.{actionTest}
 use Rattle.tree.specs.declared.node.Node.{Node}
@@ -19,7 +19,7 @@ use Rattle.tree.specs.declared.grow.Inserted.{Inserted}
 use Rattle.tree.specs.Tree.{isSound, plantedOf, insertedOf}
 use Rattle.tree.specs.Refusals.{treeTest, nodeTest, newTests, insertTests}
 use Rattle.tree.specs.Kept.{new-kept, insert-kept}
-use Rattle.tree.specs.Grow.{isPlanted, isInserted, newCount, PlantAnswer, InsertAnswer, Plants, Inserts}
+use Rattle.tree.specs.Grow.{isPlanted, isInserted, newCount, PlantAnswer, InsertAnswer, Changes, Plants, Inserts}
 
 -- ---- a test of which the code knows how it came out
 
@@ -91,3 +91,8 @@ pub inserted-kept : (nodes : List Node) (count parent action : ℕ) {r : Inserte
 inserted-kept nodes count parent action i e =
     let passed = inserted-passed nodes count parent action (i .says) e in
     ap (λ (l : List Node). isSound l (count + 1)) (i .records ∙ sym (judged-passed _ _ (insertTests nodes count parent action) passed)) ∙ insert-kept nodes count parent action passed
+
+-- ---- two runs of an entry give one answer, and leave the same records
+
+pub one-change : {A : Type 0} {kind : Kind A} {tests : List Test} {answer r s : A} {nodes changed after later : List Node} → Changes kind tests answer nodes changed r after → Changes kind tests answer nodes changed s later → (r ≡ s) × (after ≡ later)
+one-change a b = (one-answer (a .says) (b .says), a .records ∙ sym (b .records))

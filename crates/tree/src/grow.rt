@@ -45,10 +45,10 @@ fn plant_answer(records: usize) -> Planted
 fn is_planted(answer: Planted) -> bool
     ensures { λ r. ⌜ r ≡ isPlanted answer ⌝ }
 {
-    if let Planted::Refused(_) = answer {
-        return false;
+    match answer {
+        Planted::Count(_) => true,
+        Planted::Refused(_) => false,
     }
-    true
 }
 
 // Insertion into a tree that was scanned. A sound tree's count is at most the number of records, so one more does not overflow.
@@ -77,10 +77,10 @@ fn insert_answer(sound: bool, records: usize, count: usize, parent: usize, actio
 fn is_inserted(answer: Inserted) -> bool
     ensures { λ r. ⌜ r ≡ isInserted answer ⌝ }
 {
-    if let Inserted::Refused(_) = answer {
-        return false;
+    match answer {
+        Inserted::At(_, _) => true,
+        Inserted::Refused(_) => false,
     }
-    true
 }
 
 // Whether a record of that number is used.

@@ -43,7 +43,7 @@ insert-spec 𝓤 H 𝓜 𝓖 𝓡 =
     sets ! (of-opd ! (part ! refl refl refl refl)) refl (tt, record { fits = S .room .0 }) $
     calls-plain ! 𝓣 then insert-answer′ answers (s, (S .count, a)) (s-is, ((refl, S .room .0), are)) fits (λ _. opd ! refl & opd ! refl & opd ! refl & opd ! refl & opd ! refl & no-more !) (λ r r-is r-ty r-said. lands-in ! refl (r-ty .0) $
     let answer : InsertAnswer (isSound ys count) (length ys) count parent action r =
-        subst (λ (b : Bool). InsertAnswer b (length ys) count parent action r) s-said (subst (λ (m : ℕ). InsertAnswer s m count parent action r) (sym same) r-said) in
+    subst (λ (b : Bool). InsertAnswer b (length ys) count parent action r) s-said (subst (λ (m : ℕ). InsertAnswer s m count parent action r) (sym same) r-said) in
     calls-plain ! 𝓣 then is-inserted′ tells (r, tt) (r-is, tt) tt (λ _. opd ! refl & no-more !) (λ b b-is b-ty b-said. lands-in ! refl (b-ty .0) $
     sets ! (un ! (opd ! refl) tt) refl (tt, tt) $
     guards ! (opd ! refl)

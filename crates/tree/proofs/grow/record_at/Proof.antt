@@ -15,7 +15,7 @@ use Rattle.tree.specs.GrowLaws.{fails, holds}
 use Rattle.tree.proofs.grow.Recorded as R
 use Rattle.tree.proofs.grow.Recorded.Laws as R′
 use Rattle.walks.proofs.Values.{enum-is}
-use Rattle.walks.proofs.Walking.{_≡_, refl, sym, ap, _∙_, ℕ, _<_, _≤_, arith, true, [], _∷_, ltb, ltb-true, not-true, not-false, givenOf, tables, _$_, !, lit, un, agg, no-more, cited, opd, _&_, sets, lands-in, returns, guards, then, calls-shr, calls-plain, shr-proved}
+use Rattle.walks.proofs.Walking.{_≡_, refl, sym, ap, _∙_, ℕ, _≤_, arith, true, [], _∷_, ltb, ltb-true, not-true, not-false, givenOf, tables, _$_, !, lit, un, agg, no-more, cited, opd, _&_, sets, lands-in, returns, guards, then, calls-shr, calls-plain, shr-proved}
 use Rattle.tree.proofs.Types.{node-at′}
 use Rattle.tree.proofs.TypesGrow.{refusal′, recorded′, is-sound′, is-used′, record-at′}
 use Rattle.tree.proofs.scan.is_sound.Symbol as is-sound
