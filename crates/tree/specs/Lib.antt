@@ -12,6 +12,6 @@ pub mod BestLaws
 pub mod ChildrenLaws
 pub mod Refusals
 pub mod Back
-pub mod EntryLaws
 pub mod Kept
+pub mod PropagateLaws
 pub mod Worked
