@@ -15,8 +15,8 @@ pub mod Refusals
 pub mod Grow
 pub mod GrowLaws
 pub mod Back
-pub mod EntryLaws
 pub mod Paths
 pub mod PathsLaws
 pub mod Kept
+pub mod PropagateLaws
 pub mod Worked

@@ -25,7 +25,7 @@ fn is_any_full(full: bool, n: Node) -> bool
     full | is_full(n)
 }
 
-// What was found, when the way ends at record k, which is not below the target.
+// What was found, when the way has come to record k, whose number is not above the target's.
 fn surveyed(full: bool, k: usize, n: Node, target: usize) -> Survey
     ensures { λ r. ⌜ r ≡ surveyOf full k n target ⌝ }
 {
@@ -35,7 +35,7 @@ fn surveyed(full: bool, k: usize, n: Node, target: usize) -> Survey
     }
 }
 
-// A parent's number is smaller, so a target that was passed by is not above.
+// A parent has a smaller number, so a target whose number was passed by is not above.
 pub fn survey_path(nodes: &[Node], start: usize, target: usize) -> Survey
     requires { ⌜ Climbs (now nodes) start ⌝ }
     ensures { λ r. ⌜ Surveys (now (nodes .entry)) start target r ⌝ }

@@ -2,12 +2,11 @@
 -- Assumes nothing.
 use lib.Ieee.{Float}
 use contract.Running.{tablesOf}
-use Rattle.refusal.specs.declared.Checked.{Checked}
 use Rattle.tree.specs.Back.{isPassed}
-use Rattle.tree.specs.EntryLaws.{back-stops, back-climbs, back-goes-on}
-use Rattle.walks.proofs.Walking.{_≡_, refl, sym, _∙_, ℕ, Bool, true, false, not-true, not-false, givenOf, tables, _$_, !, of-opd, un, no-more, cited, opd, _&_, sets, lands-in, returns, guards, then, calls-shr, calls-plain, shr-proved}
+use Rattle.tree.specs.PropagateLaws.{back-stops, back-climbs, back-goes-on}
+use Rattle.walks.proofs.Walking.{_≡_, refl, sym, _∙_, ℕ, true, not-true, not-false, tables, _$_, !, of-opd, un, no-more, cited, opd, _&_, sets, lands-in, returns, guards, then, calls-shr, calls-plain, shr-proved}
 use Rattle.tree.proofs.TypesGrow.{is-sound′}
-use Rattle.tree.proofs.TypesBack.{checked′, check-ends′, is-passed′, survey-path′, check-way′, check-back′}
+use Rattle.tree.proofs.TypesBack.{check-ends′, is-passed′, survey-path′, check-way′, check-back′}
 use Rattle.tree.proofs.scan.is_sound.Symbol as is-sound
 use Rattle.tree.proofs.scan.is_sound.Met as is-sound-thm
 use Rattle.tree.proofs.back.check_ends.Symbol as check-ends

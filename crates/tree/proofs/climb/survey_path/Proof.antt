@@ -1,7 +1,6 @@
 -- `tree::climb::survey_path` meets its contract: a walk of its MIR, by hand. The loop's state is the record's number and what was found.
 -- Assumes nothing.
 use mathlib.Core.Bool.{_||_}
-use lib.ListN.{length}
 use contract.Running.{tablesOf}
 use Rattle.tree.specs.declared.node.Node.{Node}
 use Rattle.tree.specs.declared.climb.Survey.{Survey}

@@ -4,7 +4,7 @@ use lib.Ieee.{Float}
 use lib.ListN.{length}
 use contract.Running.{tablesOf}
 use Rattle.tree.specs.declared.node.Node.{Node}
-use Rattle.tree.specs.Tree.{nodeAt, touchedAt}
+use Rattle.tree.specs.Tree.{touchedAt}
 use Rattle.tree.proofs.Turns.{Writing, write-starts, write-turns, write-falls, write-arrives, write-ends}
 use Rattle.walks.proofs.Walking.{_≡_, refl, sym, _∙_, subst, ℕ, _<_, _^_, arith, List, [], _∷_, ltb, ltb-true, ltb-false, tables, _$_, !, unit-lit, of-opd, bin, no-more, cited, usize′, f32′, none, has, holding, env, opd, part, _&_, sets, sets-last, lands-in, keeps, returns, whiles, reborrows, fat, Own, Tok, then, calls-mut, calls-shared, mut-proved}
 use Rattle.tree.proofs.Types.{node-at′}

@@ -1,13 +1,12 @@
--- Laws of the entry of back-propagation: its tests one part after the other, what they have shown, and its answer.
+-- Laws of the entry of back-propagation: its tests one part after the other, what they have shown, its answer, and what it leaves.
 -- Assumes nothing.
-use mathlib.Core.Path.{_≡_, refl, sym, ap, _∙_}
+use mathlib.Core.Path.{_≡_, refl, sym, _∙_}
 use mathlib.Core.Bool.{Bool, true, false, not, cond, _&&_}
-use mathlib.Core.List.{List, [], _∷_, _++_}
-use Prim.Native.Nat.{ℕ, _+_, _<_}
+use mathlib.Core.List.{List, [], _∷_}
+use Prim.Native.Nat.{ℕ, _<_}
 use native.Mathlib.Omega.{arith}
 use lib.Dec.{ltb}
 use lib.Ieee.{Float}
-use lib.ListN.{length}
 use borrow.Author.Tests.{ltb-true}
 use Rattle.laws.specs.Tests.{true-false, both}
 use Rattle.refusal.specs.declared.Refusal.{Refusal}
@@ -25,6 +24,7 @@ use Rattle.tree.specs.Node.{scoreTest}
 use Rattle.tree.specs.Tree.{isSound, isAbove, pathOf, anyFull, backOf}
 use Rattle.tree.specs.TreeLaws.{SoundTree, tree-of, tree-falls}
 use Rattle.tree.specs.Refusals.{treeTest, nodeTest, aboveTest, visitsTest, backTests}
+use Rattle.tree.specs.Kept.{back-kept}
 use Rattle.tree.specs.Back.{Climbs, Reaches, Surveys, endTests, wayTests, isPassed, answerOf, Propagates}
 
 -- ---- a test that passed or did not
@@ -140,3 +140,31 @@ module _ (nodes : List Node) (count start target : ℕ) (score : Float) where
         go : (c : Checked) → isPassed c ≡ false → c ≡ checksOf (backTests nodes count start target score) → Propagates nodes count start target score (answerOf c) nodes
         go Passed fell f = absurd (true-false fell)
         go (Refused x) fell f = record { says = record { number = judged-refused reportOf success _ f; same = judged-refused P.Refused P.Done _ f }; records = judged-refused (λ y. nodes) _ _ f }
+
+-- ---- THE theorems of the entry: an answer that is no refusal is that of tests that have all passed, so all of Kept.antt holds of what is left
+
+done-refused : {x : Refusal} → P.Done ≡ P.Refused x → ⊥
+done-refused e = let z : _≡_ {A = ℕ} 0 1 = cc in omega arith
+
+module _ (nodes : List Node) (count start target : ℕ) (score : Float) {after : List Node} (p : Propagates nodes count start target score P.Done after) where
+  pub done-passed : Passed ≡ checksOf (backTests nodes count start target score)
+  done-passed = go (checksOf (backTests nodes count start target score)) refl
+    where
+      go : (c : Checked) → c ≡ checksOf (backTests nodes count start target score) → Passed ≡ checksOf (backTests nodes count start target score)
+      go Passed e = e
+      go (Refused x) e = absurd (done-refused (p .says .same ∙ sym (judged-refused P.Refused P.Done (backTests nodes count start target score) e)))
+
+  pub done-records : after ≡ backOf nodes start target score
+  done-records = p .records ∙ sym (judged-passed (λ x. nodes) (backOf nodes start target score) (backTests nodes count start target score) done-passed)
+
+  pub done-sound : isSound after count ≡ true
+  done-sound = rw done-records (back-kept nodes count start target score done-passed)
+
+module _ (nodes : List Node) (count start target : ℕ) (score : Float) {after : List Node} {x : Refusal} (p : Propagates nodes count start target score (P.Refused x) after) where
+  -- a refusal leaves every record
+  pub refused-records : after ≡ nodes
+  refused-records = go (checksOf (backTests nodes count start target score)) refl
+    where
+      go : (c : Checked) → c ≡ checksOf (backTests nodes count start target score) → after ≡ nodes
+      go Passed e = absurd (done-refused (judged-passed P.Refused P.Done (backTests nodes count start target score) e ∙ sym (p .says .same)))
+      go (Refused y) e = p .records ∙ sym (judged-refused (λ z. nodes) (backOf nodes start target score) (backTests nodes count start target score) e)
