@@ -2,7 +2,7 @@
 -- Assumes nothing.
 use mathlib.Core.Path.{_≡_, refl}
 use mathlib.Core.Bool.{true, false}
-use mathlib.Core.List.{List, [], _∷_}
+use mathlib.Core.List.{List, _∷_}
 use Prim.Native.Nat.{ℕ}
 use lib.Dec.{leb, ltb}
 use lib.ListN.{length}
@@ -12,9 +12,7 @@ use Rattle.refusal.specs.Judge.{Test, Kind, Writes}
 use Rattle.refusal.specs.JudgeLaws.{stopped-room, onward-room, answered-room}
 use Rattle.text.specs.Over.{over}
 use Rattle.tree.specs.declared.node.Node.{Node}
-use Rattle.tree.specs.declared.paths.Listed.{Listed}
 use Rattle.tree.specs.declared.paths.Listed.the-variants as L
-use Rattle.tree.specs.declared.paths.Solved.{Solved}
 use Rattle.tree.specs.declared.paths.Solved.the-variants as S
 use Rattle.tree.specs.Tree.{isSound, childrenOf, solutionOf, endOf}
 use Rattle.tree.specs.Paths.{Lists, Solves}
