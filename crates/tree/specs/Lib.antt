@@ -16,3 +16,5 @@ pub mod Paths
 pub mod PathsLaws
 pub mod Kept
 pub mod Worked
+pub mod Grow
+pub mod GrowLaws

@@ -1,6 +1,7 @@
 // The tree of tree.rs and simulator.rs: its records, and what is worked out of one record by value.
 mod best;
 mod descend;
+mod grow;
 mod listing;
 mod node;
 mod paths;
@@ -14,6 +15,12 @@ pub use best::pick;
 pub use descend::best_child;
 pub use descend::put_solution;
 pub use descend::solution_len;
+pub use grow::Inserted;
+pub use grow::Planted;
+pub use grow::Recorded;
+pub use grow::insert;
+pub use grow::plant;
+pub use grow::record_at;
 pub use listing::count_children;
 pub use listing::put_children;
 pub use node::Node;
