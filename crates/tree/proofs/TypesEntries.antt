@@ -1,12 +1,10 @@
--- The answers of the entries that list children and the solution, and their tests, as walks see them (crates/walks/proofs/Functions.antt).
+-- The answers of the entries that list children and the solution, and the test of the room, as walks see them (crates/walks/proofs/Functions.antt).
 -- Assumes nothing.
 use mathlib.Core.Path.{_≡_}
 use mathlib.Core.List.{[], _∷_}
 use mir.Syntax.{w8, w64}
-use lib.Dec.{leb, ltb}
+use lib.Dec.{leb}
 use denote.Plain.{UInt}
-use Rattle.refusal.proofs.Refusal as F
-use Rattle.refusal.proofs.Refusal.Laws as F′
 use Rattle.tree.specs.Paths.{Lists, Solves}
 use Rattle.tree.proofs.node.Node as T
 use Rattle.tree.proofs.paths.Listed as L
@@ -16,17 +14,11 @@ use Rattle.tree.proofs.paths.Solved.Laws as S′
 use Rattle.walks.proofs.Values.{Kind, usize′, bool′, enum′}
 use Rattle.walks.proofs.Functions.{nothing-asked, PlainFn, BothFn}
 
-abbrev pub refusal′ : Kind
-refusal′ = enum′ F.the-type F′.the-laws F′.the-copy F′.the-plain tt
-
 abbrev pub listed′ : Kind
 listed′ = enum′ L.the-type L′.the-laws L′.the-copy L′.the-plain tt
 
 abbrev pub solved′ : Kind
 solved′ = enum′ S.the-type S′.the-laws S′.the-copy S′.the-plain tt
-
-abbrev pub is-used′ : PlainFn
-is-used′ = record { takes = usize′ ∷ usize′ ∷ []; gives = bool′; asks = nothing-asked; says = λ a r. r ≡ ltb (a .1 .0) (a .0) }
 
 abbrev pub has-room′ : PlainFn
 has-room′ = record { takes = usize′ ∷ usize′ ∷ []; gives = bool′; asks = nothing-asked; says = λ a r. r ≡ leb (a .1 .0) (a .0) }

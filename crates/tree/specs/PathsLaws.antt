@@ -2,21 +2,22 @@
 -- Assumes nothing.
 use mathlib.Core.Path.{_≡_, refl}
 use mathlib.Core.Bool.{true, false}
-use mathlib.Core.List.{List, [], _∷_}
-use Prim.Native.Nat.{ℕ}
+use mathlib.Core.List.{List, _∷_}
+use Prim.Native.Nat.{ℕ, _<_}
 use lib.Dec.{leb, ltb}
 use lib.ListN.{length}
 use Rattle.refusal.specs.declared.Refusal.the-variants.{UnsoundTree, UnknownNode, NoRoom}
 use Rattle.refusal.specs.declared.Checked.the-variants.{Passed, Refused}
-use Rattle.refusal.specs.Judge.{Test, Kind, Writes}
-use Rattle.refusal.specs.JudgeLaws.{stopped-room, onward-room, answered-room}
+use Rattle.refusal.specs.Judge.{Test, checksOf, Kind, Writes}
+use Rattle.refusal.specs.JudgeLaws.{shown, stopped-room, onward-room, answered-room}
 use Rattle.text.specs.Over.{over}
 use Rattle.tree.specs.declared.node.Node.{Node}
-use Rattle.tree.specs.declared.paths.Listed.{Listed}
 use Rattle.tree.specs.declared.paths.Listed.the-variants as L
-use Rattle.tree.specs.declared.paths.Solved.{Solved}
 use Rattle.tree.specs.declared.paths.Solved.the-variants as S
-use Rattle.tree.specs.Tree.{isSound, childrenOf, solutionOf, endOf}
+use Rattle.tree.specs.Tree.{isSound, childrenOf, bestTo, solutionOf, endOf}
+use Rattle.tree.specs.TreeLaws.{tree-of}
+use Rattle.tree.specs.SolutionLaws.{solution-ends, solution-length}
+use Rattle.tree.specs.Refusals.{treeTest, solutionTests}
 use Rattle.tree.specs.Paths.{Lists, Solves}
 
 -- ---- a test of which the code knows how it came out
@@ -57,3 +58,15 @@ module _ (nodes : List Node) (count : ℕ) (out : List ℕ) where
     pub solution-solved : leb needed (length out) ≡ true → {last : ℕ} {after : List ℕ} → last ≡ endOf nodes count → after ≡ over out 0 (solutionOf nodes count)
         → Solves nodes count out (S.Solution needed last) after
     solution-solved e same wrote = rw (is, same) (passes sound (passes (rw is at e) (answered-room refl refl wrote)))
+
+-- ---- what an accepted call has found
+
+-- the way down is shorter than the count, and its last record has no child
+pub record Ended (nodes : List Node) (count : ℕ) : Type 0 where
+  pub short : length (solutionOf nodes count) < count
+  pub ends : bestTo count nodes (endOf nodes count) .at ≡ 0
+
+pub solution-kept : (nodes : List Node) (count room : ℕ) → Passed ≡ checksOf (solutionTests nodes count room) → Ended nodes count
+solution-kept nodes count room e =
+    let tree = tree-of (shown (treeTest nodes count) _ e refl .0) in
+    record { short = solution-length nodes count tree; ends = solution-ends nodes count tree }

@@ -84,7 +84,7 @@ fn is_inserted(answer: Inserted) -> bool
 }
 
 // Whether a record of that number is used.
-fn is_used(count: usize, k: usize) -> bool
+pub fn is_used(count: usize, k: usize) -> bool
     ensures { λ r. ⌜ r ≡ ltb k count ⌝ }
 {
     k < count

@@ -1,9 +1,10 @@
 // The entries that list the children of a record, and the solution that a tree holds.
 ghost use mathlib.Core.Path.{_≡_};
-ghost use lib.Dec.{leb, ltb};
+ghost use lib.Dec.{leb};
 ghost use Rattle.tree.specs.Paths.{Lists, Solves};
 use super::descend::put_solution;
 use super::descend::solution_len;
+use super::grow::is_used;
 use super::listing::count_children;
 use super::listing::put_children;
 use super::node::Node;
@@ -20,13 +21,6 @@ pub enum Listed {
 pub enum Solved {
     Solution(usize, usize),
     Refused(Refusal),
-}
-
-// Whether a record of that number is used.
-fn is_used(count: usize, k: usize) -> bool
-    ensures { λ r. ⌜ r ≡ ltb k count ⌝ }
-{
-    k < count
 }
 
 // Whether lent room is as long as what is to be written.

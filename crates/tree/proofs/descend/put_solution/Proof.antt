@@ -12,7 +12,7 @@ use Rattle.tree.specs.Tree.{nodeAt, bestTo}
 use Rattle.tree.specs.TreeLaws.{SoundTree}
 use Rattle.tree.specs.DescentLaws.{Down, Stored, some, down-first, down-room, down-rises, down-on, down-end, stored-first, stored-on, stored-all}
 use Rattle.tree.proofs.best.Best as B
-use Rattle.walks.proofs.Walking.{_≡_, refl, sym, ap, _∙_, subst, ℕ, _+_, _-_, _<_, _^_, arith, false, List, [], _∷_, eqb, lit<, not-true, not-false, tables, _$_, !, ‵, move, lit, of-opd, bin, no-more, cited, usize′, none, has, holding, env, opd, part, _&_, sets, lands-in, lands-last, keeps, returns, whiles, reborrows, fat, Own, Shr, Tok, then, last, calls-mut, calls-shr, both-proved}
+use Rattle.walks.proofs.Walking.{_≡_, refl, sym, ap, _∙_, subst, ℕ, _-_, _<_, _^_, arith, List, [], _∷_, eqb, lit<, not-true, not-false, tables, _$_, !, ‵, move, lit, of-opd, bin, no-more, cited, usize′, none, has, holding, env, opd, part, _&_, sets, lands-in, lands-last, keeps, returns, whiles, reborrows, fat, Own, Shr, Tok, then, last, calls-mut, calls-shr, both-proved}
 use Rattle.tree.proofs.Types.{node-at′}
 use Rattle.tree.proofs.TypesPaths.{best′, best-child′, action-fits, put-byte′, put-solution′}
 use Rattle.tree.proofs.descend.best_child.Symbol as best-child
@@ -36,12 +36,12 @@ record State (xs : List Node) (count : ℕ) (os : List ℕ) : Type 0 where
   stored : Stored xs count os p at out
 
 -- one turn
-record Turned (xs : List Node) (count : ℕ) (os : List ℕ) (k at r : ℕ) (after : List ℕ) : Type 0 where
+record Turned (xs : List Node) (count : ℕ) (os : List ℕ) (k r : ℕ) (after : List ℕ) : Type 0 where
   down : Down xs count k r
   stored : Stored xs count os k r after
 
 turned : (xs : List Node) (count : ℕ) (tree : SoundTree xs count) (os : List ℕ) (x : State xs count os) → 0 < bestTo count xs (x .p) .at
-    → {r : ℕ} {after : List ℕ} {n : Node} → n ≡ nodeAt xs (x .best .at) → Put (x .out) (x .at) (n .action ∷ []) r after → Turned xs count os (x .best .at) (x .at) r after
+    → {r : ℕ} {after : List ℕ} {n : Node} → n ≡ nodeAt xs (x .best .at) → Put (x .out) (x .at) (n .action ∷ []) r after → Turned xs count os (x .best .at) r after
 turned xs count tree os x more e put =
     rw (x .found) (record {
       down = rw (put .next) (down-on xs count tree (x .down) more);
@@ -75,7 +75,7 @@ put-solution-spec 𝓤 H 𝓜 𝓖 𝓡 =
     calls-shr 𝓣 S ys ! then node-at′ reads (x .best .at, tt) ((refl, k-fits), tt) same (omega (arith, below, tree .room)) (λ _ _. opd ! refl & opd ! refl & no-more !) (λ m m-is m-ty m-said. lands-in ! refl (m-ty .0) $
     reborrows ! (O .room .0) refl refl refl refl refl refl refl refl $ move ! (2 ∷ 3 ∷ []) $
     calls-mut 𝓣 O (x .out) ! then put-byte′ puts (x .at, (m .action, tt)) ((refl, omega (arith, room, long, O .room .0)), ((refl, action-fits m m-is), tt)) long room (λ _ _. opd ! refl & opd ! refl & part ! refl refl refl refl & no-more !) (λ r zs r-is r-ty same′ said. lands-in ! refl (r-ty .0) $ move ! (2 ∷ 3 ∷ []) $
-    let turn : Turned ys n os (x .best .at) (x .at) r zs = turned ys n tree os x more m-said said in
+    let turn : Turned ys n os (x .best .at) r zs = turned ys n tree os x more m-said said in
     calls-shr 𝓣 S ys ! last best-child′ finds (n, (x .best .at, tt)) (are .0, ((refl, k-fits), tt)) same (tree .room) (λ _ _. opd ! refl & opd ! refl & opd ! refl & no-more !) (λ b b-is b-ty b-said. lands-last ! refl (b-ty .0) $
     keeps ! 7 refl $
     again (record { p = x .best .at; at = r; best = b; out = zs; best-is = b-is; found = b-said; down = turn .down; stored = turn .stored }) (omega (arith, rises, below))))))

@@ -15,17 +15,17 @@ use Rattle.tree.proofs.paths.Listed as answer
 use Rattle.tree.proofs.paths.Listed.Laws as answer′
 use Rattle.walks.proofs.Values.{enum-is}
 use Rattle.walks.proofs.Walking.{_≡_, refl, sym, ap, _∙_, ℕ, _≤_, arith, true, [], _∷_, leb, ltb, leb-true, not-true, not-false, givenOf, tables, _$_, !, lit, of-opd, un, agg, no-more, cited, opd, part, _&_, sets, lands-in, returns, guards, reborrows, then, calls-shr, calls-both, calls-plain, both-proved}
-use Rattle.tree.proofs.TypesGrow.{is-sound′}
+use Rattle.tree.proofs.TypesGrow.{refusal′, is-sound′, is-used′}
 use Rattle.tree.proofs.TypesPaths.{count-children′, put-children′}
-use Rattle.tree.proofs.TypesEntries.{refusal′, listed′, is-used′, has-room′, children′}
+use Rattle.tree.proofs.TypesEntries.{listed′, has-room′, children′}
 use Rattle.tree.proofs.scan.is_sound.Symbol as is-sound
 use Rattle.tree.proofs.scan.is_sound.Met as is-sound-thm
 use Rattle.tree.proofs.listing.count_children.Symbol as count-children
 use Rattle.tree.proofs.listing.count_children.Met as count-children-thm
 use Rattle.tree.proofs.listing.put_children.Symbol as put-children
 use Rattle.tree.proofs.listing.put_children.Met as put-children-thm
-use Rattle.tree.proofs.paths.is_used.Symbol as is-used
-use Rattle.tree.proofs.paths.is_used.Met as is-used-thm
+use Rattle.tree.proofs.grow.is_used.Symbol as is-used
+use Rattle.tree.proofs.grow.is_used.Met as is-used-thm
 use Rattle.tree.proofs.paths.has_room.Symbol as has-room
 use Rattle.tree.proofs.paths.has_room.Met as has-room-thm
 use Rattle.tree.proofs.paths.children.Key as children
@@ -37,7 +37,7 @@ unfolding code.routine tablesOf
 children-spec 𝓤 H 𝓜 𝓖 𝓡 =
     let 𝓣 = tablesOf 𝓤 H 𝓜 (tables 𝓤 H 𝓜 𝓡 code.env) in
     let scans = cited 𝓤 H _ 𝓜 𝓡 code.env is-sound.name is-sound.routine code.calls-tree·scan·is-sound (is-sound-thm.met 𝓤 H 𝓜 𝓖 𝓡) in
-    let asks = cited 𝓤 H _ 𝓜 𝓡 code.env is-used.name is-used.routine code.calls-tree·paths·is-used (is-used-thm.met 𝓤 H 𝓜 𝓖 𝓡) in
+    let asks = cited 𝓤 H _ 𝓜 𝓡 code.env is-used.name is-used.routine code.calls-tree·grow·is-used (is-used-thm.met 𝓤 H 𝓜 𝓖 𝓡) in
     let counts = cited 𝓤 H _ 𝓜 𝓡 code.env count-children.name count-children.routine code.calls-tree·listing·count-children (count-children-thm.met 𝓤 H 𝓜 𝓖 𝓡) in
     let compares = cited 𝓤 H _ 𝓜 𝓡 code.env has-room.name has-room.routine code.calls-tree·paths·has-room (has-room-thm.met 𝓤 H 𝓜 𝓖 𝓡) in
     let puts = cited 𝓤 H _ 𝓜 𝓡 code.env put-children.name put-children.routine code.calls-tree·listing·put-children (put-children-thm.met 𝓤 H 𝓜 𝓖 𝓡) in

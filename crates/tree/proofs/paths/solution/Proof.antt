@@ -15,9 +15,9 @@ use Rattle.tree.proofs.paths.Solved as answer
 use Rattle.tree.proofs.paths.Solved.Laws as answer′
 use Rattle.walks.proofs.Values.{enum-is}
 use Rattle.walks.proofs.Walking.{_≡_, refl, sym, ap, _∙_, ℕ, _≤_, arith, true, [], _∷_, leb, leb-true, not-true, not-false, givenOf, tables, _$_, !, lit, of-opd, un, agg, no-more, cited, opd, part, _&_, sets, lands-in, returns, guards, reborrows, then, calls-shr, calls-both, calls-plain, both-proved}
-use Rattle.tree.proofs.TypesGrow.{is-sound′}
+use Rattle.tree.proofs.TypesGrow.{refusal′, is-sound′}
 use Rattle.tree.proofs.TypesPaths.{solution-len′, put-solution′}
-use Rattle.tree.proofs.TypesEntries.{refusal′, solved′, has-room′, solution′}
+use Rattle.tree.proofs.TypesEntries.{solved′, has-room′, solution′}
 use Rattle.tree.proofs.scan.is_sound.Symbol as is-sound
 use Rattle.tree.proofs.scan.is_sound.Met as is-sound-thm
 use Rattle.tree.proofs.descend.solution_len.Symbol as solution-len
