@@ -13,8 +13,8 @@ use Rattle.tree.specs.declared.grow.Inserted.{Inserted}
 use Rattle.tree.specs.declared.grow.Inserted.the-variants as I
 use Rattle.tree.specs.declared.back.Propagated.{Propagated}
 use Rattle.tree.specs.declared.back.Propagated.the-variants as B
-use Rattle.tree.specs.declared.paths.Listed.{Listed}
-use Rattle.tree.specs.declared.paths.Listed.the-variants as L
+use Rattle.tree.specs.declared.paths.Offspring.{Offspring}
+use Rattle.tree.specs.declared.paths.Offspring.the-variants as L
 use Rattle.tree.specs.declared.paths.Solved.{Solved}
 use Rattle.tree.specs.declared.paths.Solved.the-variants as S
 use Rattle.tree.specs.Grow.{planted, inserted, Plants, Inserts}
@@ -47,11 +47,11 @@ pub propagated-told : (nodes : List Node) (count start target : ℕ) (score : Fl
     → TellsPropagated nodes count start target score (propagatedAnswer r) after
 propagated-told nodes count start target score w = record { says = says-told answered propagated propagatedAnswer (λ x. refl) propagated-number (w .says); records = w .records }
 
-listed-number : (r : Listed) → reportIn (listedAnswer r) ≡ listed .told r
+listed-number : (r : Offspring) → reportIn (listedAnswer r) ≡ listed .told r
 listed-number (L.Children len) = refl
 listed-number (L.Refused x) = report-in x
 
-pub listed-told : (nodes : List Node) (count node : ℕ) (out : List ℕ) {r : Listed} {after : List ℕ} → Lists nodes count node out r after → TellsListed nodes count node out (listedAnswer r) after
+pub listed-told : (nodes : List Node) (count node : ℕ) (out : List ℕ) {r : Offspring} {after : List ℕ} → Lists nodes count node out r after → TellsListed nodes count node out (listedAnswer r) after
 listed-told nodes count node out w = record { says = says-told answered listed listedAnswer (λ x. refl) listed-number (w .says); room = w .room }
 
 solved-number : (r : Solved) → solutionAnswered .told (solvedAnswer r) ≡ solved .told r

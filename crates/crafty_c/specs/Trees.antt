@@ -17,8 +17,8 @@ use Rattle.tree.specs.declared.grow.Inserted.{Inserted}
 use Rattle.tree.specs.declared.grow.Inserted.the-variants as I
 use Rattle.tree.specs.declared.back.Propagated.{Propagated}
 use Rattle.tree.specs.declared.back.Propagated.the-variants as B
-use Rattle.tree.specs.declared.paths.Listed.{Listed}
-use Rattle.tree.specs.declared.paths.Listed.the-variants as L
+use Rattle.tree.specs.declared.paths.Offspring.{Offspring}
+use Rattle.tree.specs.declared.paths.Offspring.the-variants as L
 use Rattle.tree.specs.declared.paths.Solved.{Solved}
 use Rattle.tree.specs.declared.paths.Solved.the-variants as S
 use Rattle.tree.specs.Tree.{plantedOf, insertedOf, childrenOf, backOf, solutionOf, endOf}
@@ -42,7 +42,7 @@ abbrev pub propagatedAnswer : Propagated → CraftyAnswer
 propagatedAnswer B.Done = doneOf 0
 propagatedAnswer (B.Refused x) = refusedOf x
 
-abbrev pub listedAnswer : Listed → CraftyAnswer
+abbrev pub listedAnswer : Offspring → CraftyAnswer
 listedAnswer (L.Children len) = doneOf len
 listedAnswer (L.Refused x) = refusedOf x
 

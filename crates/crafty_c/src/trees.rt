@@ -5,8 +5,8 @@ use super::answer::CraftyAnswer;
 use super::answer::done;
 use super::answer::refused;
 use tree::Inserted;
-use tree::Listed;
 use tree::Node;
+use tree::Offspring;
 use tree::Planted;
 use tree::Propagated;
 use tree::Solved;
@@ -46,12 +46,12 @@ fn propagated_answer(propagated: Propagated) -> CraftyAnswer
     }
 }
 
-fn listed_answer(listed: Listed) -> CraftyAnswer
+fn listed_answer(listed: Offspring) -> CraftyAnswer
     ensures { λ r. ⌜ r ≡ listedAnswer listed ⌝ }
 {
     match listed {
-        Listed::Children(length) => done(length),
-        Listed::Refused(x) => refused(x),
+        Offspring::Children(length) => done(length),
+        Offspring::Refused(x) => refused(x),
     }
 }
 

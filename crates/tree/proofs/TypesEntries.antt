@@ -7,8 +7,8 @@ use lib.Dec.{leb}
 use denote.Plain.{UInt}
 use Rattle.tree.specs.Paths.{Lists, Solves}
 use Rattle.tree.proofs.node.Node as T
-use Rattle.tree.proofs.paths.Listed as L
-use Rattle.tree.proofs.paths.Listed.Laws as L′
+use Rattle.tree.proofs.paths.Offspring as L
+use Rattle.tree.proofs.paths.Offspring.Laws as L′
 use Rattle.tree.proofs.paths.Solved as S
 use Rattle.tree.proofs.paths.Solved.Laws as S′
 use Rattle.walks.proofs.Values.{Kind, usize′, bool′, enum′}

@@ -9,8 +9,8 @@ use Rattle.refusal.specs.Report.{reportOf, success}
 use Rattle.refusal.specs.Judge.{Kind, Writes}
 use Rattle.text.specs.Over.{over}
 use Rattle.tree.specs.declared.node.Node.{Node}
-use Rattle.tree.specs.declared.paths.Listed.{Listed}
-use Rattle.tree.specs.declared.paths.Listed.the-variants as L
+use Rattle.tree.specs.declared.paths.Offspring.{Offspring}
+use Rattle.tree.specs.declared.paths.Offspring.the-variants as L
 use Rattle.tree.specs.declared.paths.Solved.{Solved}
 use Rattle.tree.specs.declared.paths.Solved.the-variants as S
 use Rattle.tree.specs.Tree.{childrenOf, solutionOf, endOf}
@@ -18,11 +18,11 @@ use Rattle.tree.specs.Refusals.{childrenTests, solutionTests}
 
 -- ---- document 01's number and values for each case of the answers
 
-abbrev listedTold : Listed → Report
+abbrev listedTold : Offspring → Report
 listedTold (L.Children len) = success
 listedTold (L.Refused x) = reportOf x
 
-abbrev pub listed : Kind Listed
+abbrev pub listed : Kind Offspring
 listed = record { told = listedTold; refused = L.Refused; refusing = λ x. refl }
 
 abbrev solvedTold : Solved → Report
@@ -35,7 +35,7 @@ solved = record { told = solvedTold; refused = S.Refused; refusing = λ x. refl 
 -- ---- the entries
 
 -- refusals 7, 8 and 6; else how many children there are, and their numbers at the front of the room
-abbrev pub Lists : List Node → ℕ → ℕ → List ℕ → Listed → List ℕ → Type 0
+abbrev pub Lists : List Node → ℕ → ℕ → List ℕ → Offspring → List ℕ → Type 0
 Lists nodes count k out r after =
     Writes listed (childrenTests nodes count k (length out)) (L.Children (length (childrenOf count nodes k))) out (over out 0 (childrenOf count nodes k)) r after
 

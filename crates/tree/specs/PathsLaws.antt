@@ -12,7 +12,7 @@ use Rattle.refusal.specs.Judge.{Test, checksOf, Kind, Writes}
 use Rattle.refusal.specs.JudgeLaws.{shown, stopped-room, onward-room, answered-room}
 use Rattle.text.specs.Over.{over}
 use Rattle.tree.specs.declared.node.Node.{Node}
-use Rattle.tree.specs.declared.paths.Listed.the-variants as L
+use Rattle.tree.specs.declared.paths.Offspring.the-variants as L
 use Rattle.tree.specs.declared.paths.Solved.the-variants as S
 use Rattle.tree.specs.Tree.{isSound, childrenOf, bestTo, solutionOf, endOf}
 use Rattle.tree.specs.TreeLaws.{tree-of}

@@ -34,7 +34,7 @@ pub use node::Node;
 pub use node::check_score;
 pub use node::is_full;
 pub use node::touched;
-pub use paths::Listed;
+pub use paths::Offspring;
 pub use paths::Solved;
 pub use paths::children;
 pub use paths::solution;

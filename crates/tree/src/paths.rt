@@ -12,7 +12,7 @@ use super::scan::is_sound;
 use refusal::Refusal;
 
 // How many children were listed, or a refusal.
-pub enum Listed {
+pub enum Offspring {
     Children(usize),
     Refused(Refusal),
 }
@@ -31,24 +31,24 @@ fn has_room(room: usize, needed: usize) -> bool
 }
 
 // The children of record k, in record order.
-pub fn children(nodes: &[Node], out: &mut [usize], count: usize, k: usize) -> Listed
+pub fn children(nodes: &[Node], out: &mut [usize], count: usize, k: usize) -> Offspring
     ensures { λ r. ⌜ Lists (now (nodes .entry)) count k (now (out .entry)) r (now (out .exit)) ⌝ }
 {
     let sound = is_sound(nodes, count);
     if !sound {
-        return Listed::Refused(Refusal::UnsoundTree);
+        return Offspring::Refused(Refusal::UnsoundTree);
     }
     let used = is_used(count, k);
     if !used {
-        return Listed::Refused(Refusal::UnknownNode);
+        return Offspring::Refused(Refusal::UnknownNode);
     }
     let needed = count_children(nodes, count, k);
     let fits = has_room(out.len(), needed);
     if !fits {
-        return Listed::Refused(Refusal::NoRoom(needed));
+        return Offspring::Refused(Refusal::NoRoom(needed));
     }
     let len = put_children(nodes, out, count, k);
-    Listed::Children(len)
+    Offspring::Children(len)
 }
 
 // From record 0 on the best child of each: their actions.

@@ -7,12 +7,12 @@ use Rattle.refusal.specs.declared.Refusal.{Refusal}
 use Rattle.refusal.specs.declared.Refusal.the-variants.{UnsoundTree, UnknownNode, NoRoom}
 use Rattle.refusal.proofs.Refusal as F
 use Rattle.refusal.proofs.Refusal.Laws as F′
-use Rattle.tree.specs.declared.paths.Listed.the-variants.{Children, Refused}
+use Rattle.tree.specs.declared.paths.Offspring.the-variants.{Children, Refused}
 use Rattle.tree.specs.Tree.{isSound}
 use Rattle.tree.specs.TreeLaws.{SoundTree, tree-of}
 use Rattle.tree.specs.PathsLaws.{children-unsound, children-unknown, children-short, children-listed}
-use Rattle.tree.proofs.paths.Listed as answer
-use Rattle.tree.proofs.paths.Listed.Laws as answer′
+use Rattle.tree.proofs.paths.Offspring as answer
+use Rattle.tree.proofs.paths.Offspring.Laws as answer′
 use Rattle.walks.proofs.Values.{enum-is}
 use Rattle.walks.proofs.Walking.{_≡_, refl, sym, ap, _∙_, ℕ, _≤_, arith, true, [], _∷_, leb, ltb, leb-true, not-true, not-false, givenOf, tables, _$_, !, lit, of-opd, un, agg, no-more, cited, opd, part, _&_, sets, lands-in, returns, guards, reborrows, then, calls-shr, calls-both, calls-plain, both-proved}
 use Rattle.tree.proofs.TypesGrow.{refusal′, is-sound′, is-used′}
