@@ -37,14 +37,14 @@ fn records() -> Vec<Record> {
     records
 }
 
-/// As it is, with a record that is wrong, with visits that are full at the start, and with no record unused.
+/// As it is, with visits that are full at the start, and with a record wrong as well; each also with no record unused.
 fn trees() -> Vec<Vec<Record>> {
-    let sound = records();
-    let mut unsound = records();
-    unsound[4].max_score = ABOVE_ONE;
     let mut full = records();
     full[START as usize].visits = VISITS_MOST;
-    vec![sound.clone(), unsound, full, sound[..USED as usize].to_vec()]
+    let mut unsound = full.clone();
+    unsound[START as usize].max_score = ABOVE_ONE;
+    let trees = [records(), full, unsound];
+    trees.into_iter().flat_map(|tree| [tree[..USED as usize].to_vec(), tree]).collect()
 }
 
 fn starts() -> Vec<Call> {
@@ -85,15 +85,20 @@ fn lookups() -> Vec<Call> {
 
 /// Every start with every target, scores on both sides of their limits.
 fn paths() -> Vec<Call> {
+    let nodes = [0, BESIDE, ABOVE, 3, START, USED, 1 << 32, u64::MAX];
+    let paths: Vec<(u64, u64)> =
+        nodes.iter().flat_map(|start| nodes.map(|target| (*start, target))).collect();
+    let scores = [0.5, -1.0, 1.0, ABOVE_ONE, -ABOVE_ONE, NANS[0]];
+    trees().iter().flat_map(|tree| propagations(tree, &paths, &scores)).collect()
+}
+
+/// Each score from each start to its target.
+fn propagations(tree: &[Record], paths: &[(u64, u64)], scores: &[f32]) -> Vec<Call> {
     let mut calls = Vec::new();
-    for tree in trees() {
-        for node in [0, BESIDE, ABOVE, 3, START, USED, 1 << 32, u64::MAX] {
-            for target in [0, BESIDE, ABOVE, 3, START, USED, 1 << 32, u64::MAX] {
-                for score in [0.5, -1.0, 1.0, ABOVE_ONE, -ABOVE_ONE, NANS[0]] {
-                    let call = Call::new(Function::Backpropagate, &tree, USED);
-                    calls.push(Call { node, target, score, ..call });
-                }
-            }
+    for (node, target) in paths.iter().copied() {
+        for score in scores.iter().copied() {
+            let call = Call::new(Function::Backpropagate, tree, USED);
+            calls.push(Call { node, target, score, ..call });
         }
     }
     calls
@@ -101,19 +106,13 @@ fn paths() -> Vec<Call> {
 
 /// Each record in turn with visits around the most, below, on and above the path.
 fn visits() -> Vec<Call> {
+    let paths = [(START, 0), (START, ABOVE), (3, ABOVE), (START, START), (BESIDE, 0)];
     let mut calls = Vec::new();
     for number in 0..USED as usize {
         for visits in [VISITS_MOST - 2.0, VISITS_MOST - 1.0, VISITS_MOST, VISITS_MOST.next_up()] {
             let mut tree = records();
             tree[number].visits = visits;
-            for (node, target) in
-                [(START, 0), (START, ABOVE), (3, ABOVE), (START, START), (BESIDE, 0)]
-            {
-                for score in [1.0, ABOVE_ONE] {
-                    let call = Call::new(Function::Backpropagate, &tree, USED);
-                    calls.push(Call { node, target, score, ..call });
-                }
-            }
+            calls.extend(propagations(&tree, &paths, &[1.0, ABOVE_ONE]));
         }
     }
     calls
@@ -122,32 +121,34 @@ fn visits() -> Vec<Call> {
 /// Every score onto sums and maxima of every kind.
 fn scores() -> Vec<Call> {
     let mut calls = Vec::new();
-    for score in SCORES.into_iter().chain(NO_SCORES) {
-        for visits in [1.0, 3.0, 8_388_609.0, VISITS_MOST - 1.0] {
-            for score_sum in [0.0, -0.0, visits, -visits, LEAST, -LEAST, visits / 3.0] {
-                for max_score in [0.0, LEAST, f32::MIN_POSITIVE, 0.5, BELOW_ONE, 1.0] {
-                    let mut tree = records();
-                    for record in &mut tree[..USED as usize] {
-                        *record = Record { visits, score_sum, max_score, ..*record };
-                    }
-                    let call = Call::new(Function::Backpropagate, &tree, USED);
-                    calls.push(Call { node: START, target: ABOVE, score, ..call });
-                }
+    for visits in [1.0, 3.0, 8_388_609.0, VISITS_MOST - 1.0] {
+        for score_sum in [0.0, -0.0, visits, -visits, LEAST, -LEAST, visits / 3.0] {
+            for max_score in [0.0, LEAST, f32::MIN_POSITIVE, 0.5, BELOW_ONE, 1.0] {
+                let tree = records_with(visits, score_sum, max_score);
+                calls.extend(propagations(&tree, &[(START, ABOVE)], &SCORES));
+                calls.extend(propagations(&tree, &[(START, ABOVE)], &NO_SCORES));
             }
         }
     }
     calls
 }
 
-/// What is sound at an edge is answered by every function.
+/// All that are used have these floats.
+fn records_with(visits: f32, score_sum: f32, max_score: f32) -> Vec<Record> {
+    let mut tree = records();
+    for record in &mut tree[..USED as usize] {
+        *record = Record { visits, score_sum, max_score, ..*record };
+    }
+    tree
+}
+
+/// What is sound at an edge, for every function.
 fn edges() -> Vec<Call> {
     let mut calls = Vec::new();
     for visits in [0.0, -0.0, 1.0, 8_388_609.0, VISITS_MOST - 1.0, VISITS_MOST] {
         for score_sum in [0.0, -0.0, visits, -visits] {
             for max_score in [0.0, LEAST, BELOW_ONE, 1.0] {
-                let mut tree = records();
-                tree[ABOVE as usize] =
-                    Record { visits, score_sum, max_score, ..tree[ABOVE as usize] };
+                let tree = records_with(visits, score_sum, max_score);
                 calls.extend(FUNCTIONS.map(|function| asked(function, &tree, USED)));
             }
         }

@@ -27,11 +27,11 @@ impl Case {
     pub fn damaged(call: Call, damage: &str) -> Case {
         let case = Case::new(call);
         let met = match case.answer.number {
-            7 => format!("unsound, {damage}"),
-            0 => "damaged from count on, answered".to_string(),
-            _ => "damaged, refused by another number".to_string(),
+            7 => Some(format!("unsound, {damage}")),
+            0 => Some("damaged from count on, answered".to_string()),
+            _ => None,
         };
-        Case { met: Some(met), ..case }
+        Case { met, ..case }
     }
 }
 

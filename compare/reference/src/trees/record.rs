@@ -1,10 +1,12 @@
 //! A record of a tree, in the bytes that it has in C. Two are the same where their bits are.
 
+use std::fmt;
+
 pub const WIDTH: usize = 24;
 /// The action of record 0.
 pub const NO_ACTION: u8 = 31;
 
-#[derive(Clone, Copy, Debug)]
+#[derive(Clone, Copy)]
 pub struct Record {
     pub parent: u64,
     pub action: u8,
@@ -46,5 +48,16 @@ impl Record {
 impl PartialEq for Record {
     fn eq(&self, other: &Record) -> bool {
         self.bytes() == other.bytes()
+    }
+}
+
+/// The floats with their bits, which tell one NaN from another.
+impl fmt::Debug for Record {
+    fn fmt(&self, out: &mut fmt::Formatter) -> fmt::Result {
+        write!(out, "(parent {}, action {}", self.parent, self.action)?;
+        for float in [self.visits, self.score_sum, self.max_score] {
+            write!(out, ", {float:?} {:08X}", float.to_bits())?;
+        }
+        write!(out, ")")
     }
 }
