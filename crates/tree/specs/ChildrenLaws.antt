@@ -3,7 +3,9 @@
 use mathlib.Core.Path.{_≡_, refl, sym, ap, _∙_}
 use mathlib.Core.Bool.{Bool, true, false, cond, _&&_, _||_}
 use mathlib.Core.List.{List, [], _∷_, _++_, append-nil}
+use mathlib.Core.Logic.{⊎-elim}
 use Prim.Native.Nat.{ℕ, zero, suc, _+_, _≤_}
+use native.Mathlib.Nat.{eq-or-lt-of-le}
 use native.Mathlib.Numerals.{add-one}
 use native.Mathlib.Omega.{arith}
 use lib.Dec.{eqb, ltb}
@@ -42,6 +44,10 @@ below-next k m other = go (ltb k m) refl
 module _ (nodes : List Node) (parent : ℕ) where
   -- ---- step by step, for the loop
 
+  pub children-start : childrenOf 0 nodes parent ≡ []
+  unfolding childrenOf
+  children-start = refl
+
   pub children-one : (k : ℕ) → isChild k (nodeAt nodes k) parent ≡ true → childrenOf (k + 1) nodes parent ≡ childrenOf k nodes parent ++ (k ∷ [])
   unfolding childrenOf
   children-one k e = rw (add-one, e)
@@ -58,6 +64,12 @@ module _ (nodes : List Node) (parent : ℕ) where
       go : (t : Bool) → length (childrenOf k nodes parent) ≤ k → length (childrenOf k nodes parent) + length (cond t (k ∷ []) []) ≤ suc k
       go true h = omega arith
       go false h = omega arith
+
+  -- more records have no fewer children
+  pub children-rise : (k m : ℕ) → k ≤ m → length (childrenOf k nodes parent) ≤ length (childrenOf m nodes parent)
+  unfolding childrenOf
+  children-rise k zero h = let same : k ≡ 0 = omega arith in rw same (omega arith)
+  children-rise k (suc m) h = ⊎-elim (λ q. rw q (omega arith)) (λ l. omega (arith, children-rise k m (omega arith), length-append (childrenOf m nodes parent) (cond (isChild m (nodeAt nodes m) parent) (m ∷ []) []))) (eq-or-lt-of-le h)
 
   -- ---- each child, and nothing else
 

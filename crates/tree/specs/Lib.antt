@@ -8,8 +8,15 @@ pub mod TreeLaws
 pub mod PathLaws
 pub mod BackLaws
 pub mod SolutionLaws
+pub mod DescentLaws
 pub mod BestLaws
 pub mod ChildrenLaws
 pub mod Refusals
+pub mod Grow
+pub mod GrowLaws
+pub mod Back
+pub mod Paths
+pub mod PathsLaws
 pub mod Kept
+pub mod PropagateLaws
 pub mod Worked

@@ -4,6 +4,7 @@ use mathlib.Core.Path.{_≡_, refl, ap, _∙_}
 use mathlib.Core.Bool.{Bool, true, false, not, cond, _&&_}
 use mathlib.Core.List.{List, [], _∷_}
 use Prim.Native.Nat.{ℕ, zero, suc, _+_, _≤_, _<_}
+use native.Mathlib.Numerals.{add-one}
 use native.Mathlib.Omega.{arith}
 use lib.Dec.{eqb}
 use lib.ListN.{length, length-map}
@@ -11,9 +12,19 @@ use borrow.Author.Tests.{eqb-true}
 use Rattle.laws.specs.Tests.{both}
 use Rattle.tree.specs.declared.node.Node.{Node}
 use Rattle.tree.specs.declared.best.Best.{Best}
-use Rattle.tree.specs.Best.{isChild, isBetter, pickOf}
+use Rattle.tree.specs.Best.{isChild, noBest, isBetter, pickOf}
 use Rattle.tree.specs.Tree.{nodeAt, bestTo, onward, descentIn, descentOf, lastOf, solutionOf, endOf}
 use Rattle.tree.specs.TreeLaws.{SoundTree, Falls, tree-falls}
+
+-- ---- record by record, for the loop that finds the best child
+
+pub best-none : (nodes : List Node) (parent : ℕ) → noBest ≡ bestTo 0 nodes parent
+unfolding bestTo
+best-none nodes parent = refl
+
+pub best-next : (k : ℕ) (nodes : List Node) (parent : ℕ) → pickOf (bestTo k nodes parent) k (nodeAt nodes k) parent ≡ bestTo (k + 1) nodes parent
+unfolding bestTo
+best-next k nodes parent = rw add-one
 
 pub child-parent : (k : ℕ) (n : Node) (parent : ℕ) → isChild k n parent ≡ true → n .parent ≡ parent
 child-parent k n parent e = eqb-true (n .parent) parent (both (not (eqb k 0)) _ e .1)

@@ -1,16 +1,44 @@
-// The tree of tree.rs and simulator.rs: its records, and what is worked out of one record by value.
+// The tree of tree.rs and simulator.rs: a lent slice of records and a count of those used, and its entries.
+mod back;
 mod best;
+mod climb;
+mod descend;
+mod grow;
+mod listing;
 mod node;
+mod paths;
 mod records;
+mod scan;
 mod soundness;
 
+pub use back::Propagated;
+pub use back::backpropagate;
 pub use best::Best;
 pub use best::is_child;
 pub use best::pick;
+pub use climb::Survey;
+pub use climb::survey_path;
+pub use climb::touch_path;
+pub use descend::best_child;
+pub use descend::put_solution;
+pub use descend::solution_len;
+pub use grow::Inserted;
+pub use grow::Planted;
+pub use grow::Recorded;
+pub use grow::insert;
+pub use grow::plant;
+pub use grow::record_at;
+pub use listing::count_children;
+pub use listing::put_children;
 pub use node::Node;
 pub use node::check_score;
 pub use node::is_full;
 pub use node::touched;
+pub use paths::Listed;
+pub use paths::Solved;
+pub use paths::children;
+pub use paths::solution;
 pub use records::node_at;
 pub use records::put_node;
+pub use scan::is_sound;
 pub use soundness::is_sound_at;

@@ -6,6 +6,8 @@ use action::ACTIONS;
 use refusal::Checked;
 use refusal::Refusal;
 
+// Laid out as in C, so that hosts lend their own records.
+#[repr(C)]
 pub struct Node {
     // The record's number above it; 0 in record 0.
     pub parent: usize,

@@ -1,0 +1,17 @@
+-- `tree::grow::plant_answer` meets its contract.
+-- Assumes nothing.
+use mathlib.Core.Path.{refl}
+use borrow.Author.Needs.{needs}
+use Rattle.refusal.specs.JudgeLaws.{stopped, onward, answered}
+use Rattle.tree.proofs.grow.plant_answer.Statement.{statement}
+use Rattle.tree.proofs.grow.plant_answer.Tie as tie
+
+pub plant-answer-spec : {M : Type 1} → statement M
+plant-answer-spec =
+    tie.close
+    (tie.spec
+    (λ c κs. tt)
+    (λ c. search needs)
+    (λ c. stopped (c .before .before .before .check-room .ensures) (c .before .room .given .1))
+    (λ c. search needs)
+    (λ c. onward (c .before .before .check-room .ensures) (c .enum-told .given .1) (answered refl refl)))

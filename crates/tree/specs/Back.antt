@@ -1,0 +1,76 @@
+-- Back-propagation: what the walk that tests the way up finds, and what the entry answers.
+-- Assumes nothing.
+use mathlib.Core.Path.{_≡_, refl}
+use mathlib.Core.Bool.{Bool, true, false, not, _||_}
+use mathlib.Core.List.{List, [], _∷_}
+use Prim.Native.Nat.{ℕ, _+_, _<_}
+use lib.Dec.{eqb}
+use lib.Ieee.{Float}
+use lib.ListN.{length}
+use Rattle.refusal.specs.declared.Refusal.the-variants.{UnsoundTree, NotAbove, VisitsFull}
+use Rattle.refusal.specs.declared.Checked.{Checked}
+use Rattle.refusal.specs.declared.Checked.the-variants as C
+use Rattle.refusal.specs.declared.Report.{Report}
+use Rattle.refusal.specs.Report.{reportOf, success}
+use Rattle.refusal.specs.Judge.{Test, judged, Kind, Says}
+use Rattle.tree.specs.declared.node.Node.{Node}
+use Rattle.tree.specs.declared.climb.Survey.{Survey}
+use Rattle.tree.specs.declared.back.Propagated.{Propagated}
+use Rattle.tree.specs.declared.back.Propagated.the-variants as P
+use Rattle.tree.specs.Node.{isFull, scoreTest}
+use Rattle.tree.specs.Tree.{isAbove, pathOf, anyFull, backOf}
+use Rattle.tree.specs.TreeLaws.{Falls}
+use Rattle.tree.specs.Refusals.{nodeTest, backTests}
+
+-- ---- the entry
+
+-- document 01's number for each case of the answer
+abbrev propagatedTold : Propagated → Report
+propagatedTold P.Done = success
+propagatedTold (P.Refused x) = reportOf x
+
+abbrev pub propagated : Kind Propagated
+propagated = record { told = propagatedTold; refused = P.Refused; refusing = λ x. refl }
+
+pub record Propagates (nodes : List Node) (count start target : ℕ) (score : Float) (r : Propagated) (after : List Node) : Type 0 where
+  -- refusals 7, 8 for start or target, 9, 10 and 11
+  pub says : Says propagated (backTests nodes count start target score) P.Done r
+  -- the records on the path are touched, and no other; a refusal leaves every record
+  pub records : after ≡ judged (λ x. nodes) (backOf nodes start target score) (backTests nodes count start target score)
+
+-- ---- the way up
+
+-- from record start on every step goes to a smaller number
+pub record Climbs (nodes : List Node) (start : ℕ) : Type 0 where
+  pub room : start < length nodes
+  pub falls : Falls nodes (start + 1)
+
+-- and comes by the target
+pub record Reaches (nodes : List Node) (start target : ℕ) : Type 0 where
+  pub climbs : Climbs nodes start
+  pub above : isAbove nodes start target ≡ true
+
+-- what is found where the way ends at record k
+abbrev pub surveyOf : Bool → ℕ → Node → ℕ → Survey
+surveyOf full k n target = record { above = eqb k target; full = full || isFull n }
+
+-- a survey answers tests 9 and 11, the latter where 9 has passed
+pub record Surveys (nodes : List Node) (start target : ℕ) (survey : Survey) : Type 0 where
+  pub above : survey .above ≡ isAbove nodes start target
+  pub full : survey .above ≡ true → survey .full ≡ anyFull nodes (pathOf nodes start target)
+
+-- ---- the tests in two parts: by what a scan found, and by what a survey found
+
+abbrev pub endTests : Bool → ℕ → ℕ → ℕ → List Test
+endTests sound count start target = record { passed = sound; otherwise = UnsoundTree } ∷ nodeTest count start ∷ nodeTest count target ∷ []
+
+abbrev pub wayTests : Survey → Float → List Test
+wayTests survey score = record { passed = survey .above; otherwise = NotAbove } ∷ scoreTest score ∷ record { passed = not (survey .full); otherwise = VisitsFull } ∷ []
+
+abbrev pub isPassed : Checked → Bool
+isPassed C.Passed = true
+isPassed (C.Refused x) = false
+
+abbrev pub answerOf : Checked → Propagated
+answerOf C.Passed = P.Done
+answerOf (C.Refused x) = P.Refused x

@@ -1,0 +1,83 @@
+-- What the entries over a growing tree answer: a new tree, insertion, and a record by its number.
+-- Assumes nothing.
+use mathlib.Core.Path.{_≡_, refl}
+use mathlib.Core.Bool.{Bool, true, false}
+use mathlib.Core.List.{List, [], _∷_}
+use Prim.Native.Nat.{ℕ, _+_}
+use Rattle.refusal.specs.declared.Report.{Report}
+use Rattle.refusal.specs.declared.Refusal.the-variants.{UnsoundTree}
+use Rattle.refusal.specs.Report.{reportOf, success}
+use Rattle.refusal.specs.Judge.{Test, judged, roomTest, Kind, Says}
+use Rattle.action.specs.Known.{actionTest}
+use Rattle.tree.specs.declared.node.Node.{Node}
+use Rattle.tree.specs.declared.grow.Planted.{Planted}
+use Rattle.tree.specs.declared.grow.Planted.the-variants as P
+use Rattle.tree.specs.declared.grow.Inserted.{Inserted}
+use Rattle.tree.specs.declared.grow.Inserted.the-variants as I
+use Rattle.tree.specs.declared.grow.Recorded.{Recorded}
+use Rattle.tree.specs.declared.grow.Recorded.the-variants as R
+use Rattle.tree.specs.Tree.{nodeAt, plantedOf, insertedOf}
+use Rattle.tree.specs.Refusals.{nodeTest, newTests, recordTests, insertTests}
+
+-- ---- document 01's number and values for each case of the answers
+
+abbrev plantedTold : Planted → Report
+plantedTold (P.Count n) = success
+plantedTold (P.Refused x) = reportOf x
+
+abbrev pub planted : Kind Planted
+planted = record { told = plantedTold; refused = P.Refused; refusing = λ x. refl }
+
+abbrev insertedTold : Inserted → Report
+insertedTold (I.At number count) = success
+insertedTold (I.Refused x) = reportOf x
+
+abbrev pub inserted : Kind Inserted
+inserted = record { told = insertedTold; refused = I.Refused; refusing = λ x. refl }
+
+abbrev recordedTold : Recorded → Report
+recordedTold (R.Record n) = success
+recordedTold (R.Refused x) = reportOf x
+
+abbrev pub recorded : Kind Recorded
+recorded = record { told = recordedTold; refused = R.Refused; refusing = λ x. refl }
+
+-- ---- the answers, before any record is touched
+
+abbrev pub isPlanted : Planted → Bool
+isPlanted (P.Count n) = true
+isPlanted (P.Refused x) = false
+
+abbrev pub isInserted : Inserted → Bool
+isInserted (I.At number count) = true
+isInserted (I.Refused x) = false
+
+-- a new tree has one record
+abbrev pub newCount : ℕ
+newCount = 1
+
+-- refusal 7, by what the scan found
+abbrev pub scannedTest : Bool → Test
+scannedTest sound = record { passed = sound; otherwise = UnsoundTree }
+
+abbrev pub PlantAnswer : ℕ → Planted → Type 0
+PlantAnswer records r = Says planted (roomTest records newCount ∷ []) (P.Count newCount) r
+
+-- the new record's number is the count, and the new count is one more
+abbrev pub InsertAnswer : Bool → ℕ → ℕ → ℕ → ℕ → Inserted → Type 0
+InsertAnswer sound records count parent action r = Says inserted (actionTest action ∷ scannedTest sound ∷ nodeTest count parent ∷ roomTest records (count + 1) ∷ []) (I.At count (count + 1)) r
+
+-- ---- the entries: the answer, and what the records hold then, which is what they held where a test fails
+
+pub record Changes {A : Type 0} (kind : Kind A) (tests : List Test) (answer : A) (nodes changed : List Node) (r : A) (after : List Node) : Type 0 where
+  pub says : Says kind tests answer r
+  pub records : after ≡ judged (λ x. nodes) changed tests
+
+abbrev pub Plants : List Node → Planted → List Node → Type 0
+Plants nodes r after = Changes planted (newTests nodes) (P.Count newCount) nodes (plantedOf nodes) r after
+
+abbrev pub Inserts : List Node → ℕ → ℕ → ℕ → Inserted → List Node → Type 0
+Inserts nodes count parent action r after = Changes inserted (insertTests nodes count parent action) (I.At count (count + 1)) nodes (insertedOf nodes count parent action) r after
+
+abbrev pub Looks : List Node → ℕ → ℕ → Recorded → Type 0
+Looks nodes count k r = Says recorded (recordTests nodes count k) (R.Record (nodeAt nodes k)) r

@@ -1,0 +1,57 @@
+// The way down from record 0, by the best child of each: what `solution` writes.
+ghost use mathlib.Core.Path.{_≡_};
+ghost use Prim.Native.Nat.{_≤_};
+ghost use lib.ListN.{length};
+ghost use Rattle.text.specs.Over.{over};
+ghost use Rattle.tree.specs.Tree.{bestTo, solutionOf, endOf};
+ghost use Rattle.tree.specs.TreeLaws.{SoundTree};
+use super::best::Best;
+use super::best::pick;
+use super::node::Node;
+use super::records::node_at;
+use text::put_byte;
+
+pub fn best_child(nodes: &[Node], count: usize, parent: usize) -> Best
+    requires { ⌜ count ≤ length (now nodes) ⌝ }
+    ensures { λ r. ⌜ r ≡ bestTo count (now (nodes .entry)) parent ⌝ }
+{
+    let mut best = Best::none();
+    let mut i = 0;
+    while i < count {
+        let n = node_at(nodes, i);
+        best = pick(best, i, n, parent);
+        i += 1;
+    }
+    best
+}
+
+// How many actions the way down has.
+pub fn solution_len(nodes: &[Node], count: usize) -> usize
+    requires { ⌜ SoundTree (now nodes) count ⌝ }
+    ensures { λ r. ⌜ r ≡ length (solutionOf (now (nodes .entry)) count) ⌝ }
+{
+    let mut len = 0;
+    let mut best = best_child(nodes, count, 0);
+    while best.at != 0 {
+        len += 1;
+        best = best_child(nodes, count, best.at);
+    }
+    len
+}
+
+// Stores the actions of the way down, and answers its last record.
+pub fn put_solution(nodes: &[Node], out: &mut [u8], count: usize) -> usize
+    requires { ⌜ SoundTree (now nodes) count × (length (solutionOf (now nodes) count) ≤ length (now out)) ⌝ }
+    ensures { λ r. ⌜ (r ≡ endOf (now (nodes .entry)) count) × (now (out .exit) ≡ over (now (out .entry)) 0 (solutionOf (now (nodes .entry)) count)) ⌝ }
+{
+    let mut last = 0;
+    let mut at = 0;
+    let mut best = best_child(nodes, count, last);
+    while best.at != 0 {
+        last = best.at;
+        let n = node_at(nodes, last);
+        at = put_byte(out, at, n.action);
+        best = best_child(nodes, count, last);
+    }
+    last
+}
