@@ -34,6 +34,11 @@ enum {
     CRAFTY_UNKNOWN_ACTION = 3, /* an action's number is above 30; value: the first such place in the list, from 0 */
     CRAFTY_UNKNOWN_WORD = 5,   /* a word is no action's name; value: the byte where the first such word starts */
     CRAFTY_NO_ROOM = 6,        /* what was lent is too short; value: how many bytes or numbers are needed */
+    CRAFTY_UNSOUND_TREE = 7,   /* a record below the count is unsound, or the count is 0 or above the records */
+    CRAFTY_UNKNOWN_NODE = 8,   /* a node's number is not below the count */
+    CRAFTY_NOT_ABOVE = 9,      /* the target is neither the start nor above it */
+    CRAFTY_BAD_SCORE = 10,     /* a score is a NaN or outside -1 to 1 */
+    CRAFTY_VISITS_FULL = 11,   /* a record on the way has 16,777,216 visits */
     CRAFTY_MALFORMED_LINE = 12, /* the first line is not fifteen numbers, parted by single spaces */
     CRAFTY_TOO_LONG = 13       /* an input, or a list to write as text or to time, is above 65,536 bytes */
 };
@@ -112,6 +117,43 @@ crafty_answer crafty_write_list(const uint8_t *list, size_t list_length, uint8_t
 
 /* A list's macro time: the value of a success is the sum of its waits in seconds. Refused by 13, 3. */
 crafty_answer crafty_macro_time(const uint8_t *list, size_t list_length);
+
+/* A record of the search's tree. Record 0 has parent 0 and action 31; every other record a parent below its own number
+ * and an action up to 30. The first `count` records of a lent run are the tree; the others may hold anything. */
+typedef struct crafty_node {
+    size_t parent;
+    uint8_t action;
+    float visits;
+    float score_sum;
+    float max_score;
+} crafty_node;
+
+/* The answer of crafty_tree_solution: `value` is the length of a success, and `node` its last node, else 0. */
+typedef struct crafty_solution {
+    uint32_t number;
+    size_t value;
+    size_t node;
+} crafty_solution;
+
+/* A new tree: writes record 0. The value is the count, 1. Refused by 6 (no record). */
+crafty_answer crafty_tree_new(crafty_node *nodes, size_t nodes_length);
+
+/* Writes a new record, number `count`, below a parent. The value is its number; the count is then one more. Refused by
+ * 3, 7, 8, 6. */
+crafty_answer crafty_tree_insert(
+    crafty_node *nodes, size_t nodes_length, size_t count, size_t parent, uint8_t action);
+
+/* One visit more, with a score from -1 to 1, of each record from `start` up to `target`. Refused by 7, 8, 9, 10, 11. */
+crafty_answer crafty_tree_backpropagate(
+    crafty_node *nodes, size_t nodes_length, size_t count, size_t start, size_t target, float score);
+
+/* The numbers of a record's children, in record order. The value is how many. Refused by 7, 8, 6. */
+crafty_answer crafty_tree_children(
+    const crafty_node *nodes, size_t nodes_length, size_t *out, size_t out_length, size_t count, size_t node);
+
+/* From record 0 the child of greatest max_score, the last of equals, and so on: their actions. Refused by 7, 6. */
+crafty_solution crafty_tree_solution(
+    const crafty_node *nodes, size_t nodes_length, uint8_t *out, size_t out_length, size_t count);
 
 #ifdef __cplusplus
 }

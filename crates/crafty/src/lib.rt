@@ -1,5 +1,5 @@
 // The public face of the engine. Every entry takes any numbers and bytes, and refuses what is outside the limits by document 01's numbers.
-// The entries over sets and contexts are the methods of `ActionSet` and `CraftContext`; a craft starts by `CraftState::new`.
+// The entries over sets and contexts are the methods of `ActionSet` and `CraftContext`; a craft starts by `CraftState::new`; those over a tree are the crate `tree`'s.
 mod actions;
 mod lists;
 mod program;
@@ -63,3 +63,16 @@ pub use states::moves;
 pub use states::result;
 pub use states::score;
 pub use states::step;
+pub use tree::Inserted;
+pub use tree::Listed;
+pub use tree::Node;
+pub use tree::Planted;
+pub use tree::Propagated;
+pub use tree::Recorded;
+pub use tree::Solved;
+pub use tree::backpropagate;
+pub use tree::children;
+pub use tree::insert;
+pub use tree::plant;
+pub use tree::record_at;
+pub use tree::solution;

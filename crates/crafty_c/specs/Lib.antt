@@ -3,3 +3,5 @@ pub mod AnswerLaws
 pub mod Numbers
 pub mod Replays
 pub mod Texts
+pub mod Trees
+pub mod TreeLaws

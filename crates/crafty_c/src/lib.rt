@@ -4,6 +4,7 @@ mod answer;
 mod numbers;
 mod replays;
 mod texts;
+mod trees;
 
 pub use answer::CraftyAnswer;
 pub use replays::crafty_replay;
@@ -12,3 +13,9 @@ pub use texts::crafty_print;
 pub use texts::crafty_read_list;
 pub use texts::crafty_replay_text;
 pub use texts::crafty_write_list;
+pub use trees::CraftySolution;
+pub use trees::crafty_tree_backpropagate;
+pub use trees::crafty_tree_children;
+pub use trees::crafty_tree_insert;
+pub use trees::crafty_tree_new;
+pub use trees::crafty_tree_solution;

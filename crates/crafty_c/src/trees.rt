@@ -1,6 +1,6 @@
 // The tree over records that a host lends.
 ghost use mathlib.Core.Path.{_≡_};
-ghost use Rattle.crafty_c.specs.Trees.{plantedAnswer, insertedAnswer, propagatedAnswer, listedAnswer, solvedAnswer, TellsPlanted, TellsInserted, TellsPropagated, TellsListed, TellsSolved};
+ghost use Rattle.crafty_c.specs.Trees.{plantedAnswer, insertedAnswer, propagatedAnswer, listedAnswer, solvedAt, solvedAnswer, TellsPlanted, TellsInserted, TellsPropagated, TellsListed, TellsSolved};
 use super::answer::CraftyAnswer;
 use super::answer::done;
 use super::answer::refused;
@@ -56,7 +56,7 @@ fn listed_answer(listed: Listed) -> CraftyAnswer
 }
 
 fn solved_at(answer: CraftyAnswer, node: usize) -> CraftySolution
-    ensures { λ r. ⌜ r ≡ record { number = answer .number; value = answer .value; node = node } ⌝ }
+    ensures { λ r. ⌜ r ≡ solvedAt answer node ⌝ }
 {
     CraftySolution {
         number: answer.number,
@@ -83,7 +83,12 @@ pub extern "C" fn crafty_tree_new(nodes: &mut [Node]) -> CraftyAnswer
 }
 
 #[no_mangle]
-pub extern "C" fn crafty_tree_insert(nodes: &mut [Node], count: usize, parent: usize, action: u8) -> CraftyAnswer
+pub extern "C" fn crafty_tree_insert(
+    nodes: &mut [Node],
+    count: usize,
+    parent: usize,
+    action: u8,
+) -> CraftyAnswer
     ensures { λ r. ⌜ TellsInserted (now (nodes .entry)) count parent action r (now (nodes .exit)) ⌝ }
 {
     let inserted = tree::insert(nodes, count, parent, action);
@@ -91,7 +96,13 @@ pub extern "C" fn crafty_tree_insert(nodes: &mut [Node], count: usize, parent: u
 }
 
 #[no_mangle]
-pub extern "C" fn crafty_tree_backpropagate(nodes: &mut [Node], count: usize, start: usize, target: usize, score: f32) -> CraftyAnswer
+pub extern "C" fn crafty_tree_backpropagate(
+    nodes: &mut [Node],
+    count: usize,
+    start: usize,
+    target: usize,
+    score: f32,
+) -> CraftyAnswer
     ensures { λ r. ⌜ TellsPropagated (now (nodes .entry)) count start target score r (now (nodes .exit)) ⌝ }
 {
     let propagated = tree::backpropagate(nodes, count, start, target, score);
@@ -99,7 +110,12 @@ pub extern "C" fn crafty_tree_backpropagate(nodes: &mut [Node], count: usize, st
 }
 
 #[no_mangle]
-pub extern "C" fn crafty_tree_children(nodes: &[Node], out: &mut [usize], count: usize, node: usize) -> CraftyAnswer
+pub extern "C" fn crafty_tree_children(
+    nodes: &[Node],
+    out: &mut [usize],
+    count: usize,
+    node: usize,
+) -> CraftyAnswer
     ensures { λ r. ⌜ TellsListed (now (nodes .entry)) count node (now (out .entry)) r (now (out .exit)) ⌝ }
 {
     let listed = tree::children(nodes, out, count, node);
@@ -107,7 +123,11 @@ pub extern "C" fn crafty_tree_children(nodes: &[Node], out: &mut [usize], count:
 }
 
 #[no_mangle]
-pub extern "C" fn crafty_tree_solution(nodes: &[Node], out: &mut [u8], count: usize) -> CraftySolution
+pub extern "C" fn crafty_tree_solution(
+    nodes: &[Node],
+    out: &mut [u8],
+    count: usize,
+) -> CraftySolution
     ensures { λ r. ⌜ TellsSolved (now (nodes .entry)) count (now (out .entry)) r (now (out .exit)) ⌝ }
 {
     let solved = tree::solution(nodes, out, count);
