@@ -2,11 +2,18 @@
  * room come after it. An answer is two numbers of eight bytes, and the room. */
 #include "../include/crafty.h"
 
-enum function { REPLAY, REPLAY_TEXT, PRINT, READ_LIST, WRITE_LIST, MACRO_TIME };
+enum function {
+    REPLAY, REPLAY_TEXT, PRINT, READ_LIST, WRITE_LIST, MACRO_TIME,
+    TREE_NEW, TREE_INSERT, TREE_CHILDREN, TREE_BACKPROPAGATE, TREE_SOLUTION
+};
 
 enum { FIELDS = 15 };
 
-/* Only REPLAY has a mode and a context. The lengths are in bytes. */
+/* Of a tree the input is its records, which may be written: they come back before the room, after a third number, the
+ * last node. Its other numbers stand at these places of the context; NODE is also a parent or a start, SCORE is bits. */
+enum { COUNT, NODE, TARGET, ACTION, SCORE };
+
+/* Only REPLAY has a mode, and it and the trees a context. The lengths are in bytes. */
 struct call {
     uint64_t function, strict, context[FIELDS], input, room;
 };

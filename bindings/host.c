@@ -49,40 +49,91 @@ static crafty_answer answer(const struct call *call, const uint8_t *input, void 
     abort();
 }
 
+/* Of a tree; only its solution has a node. */
+static crafty_solution tree_answer(const struct call *call, crafty_node *nodes, void *room)
+{
+    const uint64_t *c = call->context;
+    size_t length = call->input / sizeof *nodes;
+    uint32_t bits = c[SCORE];
+    float score;
+    memcpy(&score, &bits, sizeof score);
+    crafty_answer said = { 0, 0 };
+    switch (call->function) {
+    case TREE_NEW: said = crafty_tree_new(nodes, length); break;
+    case TREE_INSERT: said = crafty_tree_insert(nodes, length, c[COUNT], c[NODE], c[ACTION]); break;
+    case TREE_CHILDREN:
+        said = crafty_tree_children(nodes, length, room, call->room / sizeof(size_t), c[COUNT], c[NODE]);
+        break;
+    case TREE_BACKPROPAGATE:
+        said = crafty_tree_backpropagate(nodes, length, c[COUNT], c[NODE], c[TARGET], score);
+        break;
+    case TREE_SOLUTION: return crafty_tree_solution(nodes, length, room, call->room, c[COUNT]);
+    default: fail("no such function");
+    }
+    return (crafty_solution){ said.number, said.value, 0 };
+}
+
 static void check_margin(const uint8_t *margin)
 {
     for (size_t i = 0; i < MARGIN; i++)
         if (margin[i] != MARK) fail("a byte outside the room was written");
 }
 
+/* Room that holds what comes next on standard input. */
+static uint8_t *lend(size_t bytes)
+{
+    uint8_t *around = take(bytes + 2 * MARGIN);
+    memset(around, MARK, bytes + 2 * MARGIN);
+    get(around + MARGIN, bytes);
+    return around + MARGIN;
+}
+
+static void give_back(uint8_t *room, size_t bytes)
+{
+    check_margin(room - MARGIN);
+    check_margin(room + bytes);
+    put(room, bytes);
+    free(room - MARGIN);
+}
+
 static void serve(const struct call *call)
 {
     uint8_t *input = take(call->input);
     uint8_t *given = take(call->input);
-    uint8_t *around = take(call->room + 2 * MARGIN);
-    uint8_t *room = around + MARGIN;
-    memset(around, MARK, call->room + 2 * MARGIN);
     get(input, call->input);
-    get(room, call->room);
     memcpy(given, input, call->input);
+    uint8_t *room = lend(call->room);
 
     crafty_answer said = answer(call, input, room);
-    check_margin(around);
-    check_margin(room + call->room);
     if (memcmp(given, input, call->input) != 0) fail("the input was written");
 
-    uint64_t numbers[2] = { said.number, said.value };
+    uint64_t numbers[] = { said.number, said.value };
     put(numbers, sizeof numbers);
-    put(room, call->room);
-    if (fflush(stdout) != 0) fail("no one reads the answers");
+    give_back(room, call->room);
     free(input);
     free(given);
-    free(around);
+}
+
+static void serve_tree(const struct call *call)
+{
+    uint8_t *records = lend(call->input);
+    uint8_t *room = lend(call->room);
+
+    crafty_solution said = tree_answer(call, (crafty_node *)records, room);
+
+    uint64_t numbers[] = { said.number, said.value, said.node };
+    put(numbers, sizeof numbers);
+    give_back(records, call->input);
+    give_back(room, call->room);
 }
 
 int main(void)
 {
     struct call call;
-    while (fread(&call, sizeof call, 1, stdin) == 1) serve(&call);
+    while (fread(&call, sizeof call, 1, stdin) == 1) {
+        if (call.function < TREE_NEW) serve(&call);
+        else serve_tree(&call);
+        if (fflush(stdout) != 0) fail("no one reads the answers");
+    }
     return 0;
 }

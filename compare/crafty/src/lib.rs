@@ -73,6 +73,32 @@ pub mod simulator {
             let parent = |index: &usize| self.tree.get(*index).parent;
             std::iter::successors(Some(index), parent).skip(1).count()
         }
+
+        /// A tree of its root alone.
+        pub fn of_root(context: &'a CraftContext) -> Self {
+            Self::from_context(context, SearchOptions::default())
+        }
+
+        /// A state holds its node's number as its progress, so that `solution_node` tells it.
+        pub fn insert_action(&mut self, parent: usize, action: Action) -> usize {
+            let progress = self.tree.nodes.len() as u32;
+            let start = CraftState::new(self.tree.get(0).state.context);
+            self.tree.insert(parent, CraftState { progress, action: Some(action), ..start })
+        }
+
+        pub fn tree_mut(&mut self) -> &mut Arena<CraftState<'a>> {
+            &mut self.tree
+        }
+
+        pub fn backpropagate_score(&mut self, start: usize, target: usize, score: f32) {
+            self.backpropagate(start, target, score);
+        }
+
+        /// The actions of `solution`, and the number of its node.
+        pub fn solution_node(&self) -> (Vec<Action>, usize) {
+            let (actions, state) = self.solution();
+            (actions, state.progress as usize)
+        }
     }
 }
 

@@ -2,7 +2,7 @@
 //! reads cases from standard input and writes one line for each. Of craft states and replays, whose lines are
 //! wider: `fixed-states`, `random-states SEED FIRST COUNT`, and `count-states`, what they meet; the same of
 //! replays and of displays; and of all three `fixed-crafts`, and `answer-crafts`. `compare-texts SEED COUNT HOST..`
-//! asks a host of the archive, the command HOST.., for whole crafts as text and numbers.
+//! asks a host of the archive, the command HOST.., for whole crafts as text and numbers, and `compare-trees` for trees.
 
 mod actions;
 mod case;
@@ -20,6 +20,7 @@ mod room;
 mod sets;
 mod states;
 mod texts;
+mod trees;
 
 use case::{Case, LAST_KIND, WIDTH};
 use states::tally::Tally;
@@ -29,7 +30,7 @@ const COMMANDS: &str = "fixed | edges | random SEED COUNT KIND.. | answer \
     | fixed-states | random-states SEED FIRST COUNT | count-states \
     | fixed-replays | random-replays SEED FIRST COUNT | count-replays \
     | fixed-displays | random-displays SEED FIRST COUNT | count-displays \
-    | fixed-crafts | answer-crafts | compare-texts SEED COUNT HOST..";
+    | fixed-crafts | answer-crafts | compare-texts SEED COUNT HOST.. | compare-trees SEED COUNT HOST..";
 
 fn main() -> io::Result<()> {
     let arguments: Vec<String> = std::env::args().skip(1).collect();
@@ -63,6 +64,9 @@ fn main() -> io::Result<()> {
         ["answer-crafts"] => answer_crafts(),
         ["compare-texts", seed, count, ref host @ ..] if !host.is_empty() => {
             texts::compare(number(seed), number(count), host)
+        }
+        ["compare-trees", seed, count, ref host @ ..] if !host.is_empty() => {
+            trees::compare(number(seed), number(count), host)
         }
         _ => fail(format!("one of: {COMMANDS}")),
     }

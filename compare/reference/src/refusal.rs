@@ -10,6 +10,11 @@ pub enum Refusal {
     IllegalMove,
     UnknownWord { offset: usize },
     RoomTooShort { needed: usize },
+    UnsoundTree,
+    UnknownNode,
+    NotAbove,
+    OutsideScore,
+    VisitsFull,
     MalformedLine,
     TooLong,
 }
@@ -23,6 +28,11 @@ impl Refusal {
             Refusal::IllegalMove => 4,
             Refusal::UnknownWord { .. } => 5,
             Refusal::RoomTooShort { .. } => 6,
+            Refusal::UnsoundTree => 7,
+            Refusal::UnknownNode => 8,
+            Refusal::NotAbove => 9,
+            Refusal::OutsideScore => 10,
+            Refusal::VisitsFull => 11,
             Refusal::MalformedLine => 12,
             Refusal::TooLong => 13,
         }

@@ -13,4 +13,4 @@ mod output;
 mod run;
 mod timing;
 
-pub use run::compare;
+pub use run::{compare, end, start, Host};

@@ -15,9 +15,9 @@ use std::thread;
 const UNDER_WAY: usize = 64;
 
 pub struct Host {
-    process: Child,
-    stdin: ChildStdin,
-    stdout: ChildStdout,
+    pub process: Child,
+    pub stdin: ChildStdin,
+    pub stdout: ChildStdout,
 }
 
 /// The fixed list and the calls of `count` random replays.
@@ -25,6 +25,10 @@ pub fn compare(seed: u64, count: u64, command: &[&str]) -> io::Result<()> {
     let (counts, mut host) = ask(seed, count, start(command)?)?;
     println!("{counts}");
     timing::print(&mut host)?;
+    end(host)
+}
+
+pub fn end(mut host: Host) -> io::Result<()> {
     drop(host.stdin);
     let ended = host.process.wait()?;
     if !ended.success() {
@@ -33,7 +37,7 @@ pub fn compare(seed: u64, count: u64, command: &[&str]) -> io::Result<()> {
     Ok(())
 }
 
-fn start(command: &[&str]) -> io::Result<Host> {
+pub fn start(command: &[&str]) -> io::Result<Host> {
     let mut started = Command::new(command[0]);
     started.args(&command[1..]).stdin(Stdio::piped()).stdout(Stdio::piped());
     let mut process = started.spawn()?;

@@ -1,0 +1,60 @@
+//! The Rust's own tree with the nodes of given records, sound ones.
+
+use super::record::{Record, NO_ACTION};
+use crate::states::bench::bench;
+use crafty::{Action, CraftContext, Simulator};
+use std::sync::LazyLock;
+
+static CONTEXT: LazyLock<CraftContext> = LazyLock::new(bench);
+
+pub struct Tree(Simulator<'static>);
+
+impl Tree {
+    /// Of a root alone, as the Rust starts one.
+    pub fn new() -> Tree {
+        Tree(Simulator::of_root(&CONTEXT))
+    }
+
+    pub fn of(records: &[Record]) -> Tree {
+        let mut tree = Tree::new();
+        for (node, record) in records.iter().enumerate() {
+            if node > 0 {
+                tree.insert(record.parent as usize, record.action);
+            }
+            let state = &mut tree.0.tree_mut().get_mut(node).state;
+            state.visits = record.visits;
+            state.score_sum = record.score_sum;
+            state.max_score = record.max_score;
+        }
+        tree
+    }
+
+    pub fn records(&mut self) -> Vec<Record> {
+        let nodes = self.0.tree_mut().nodes.iter();
+        let record = |node: &crafty::tree::Node<crafty::CraftState>| Record {
+            parent: node.parent.unwrap_or(0) as u64,
+            action: node.state.action.map_or(NO_ACTION, |action| action as u8),
+            visits: node.state.visits,
+            score_sum: node.state.score_sum,
+            max_score: node.state.max_score,
+        };
+        nodes.map(record).collect()
+    }
+
+    pub fn insert(&mut self, parent: usize, action: u8) -> usize {
+        self.0.insert_action(parent, Action::ACTIONS[usize::from(action)])
+    }
+
+    pub fn children(&mut self, node: usize) -> Vec<usize> {
+        self.0.tree_mut().get(node).children.clone()
+    }
+
+    pub fn backpropagate(&mut self, start: usize, target: usize, score: f32) {
+        self.0.backpropagate_score(start, target, score);
+    }
+
+    pub fn solution(&self) -> (Vec<u8>, usize) {
+        let (actions, node) = self.0.solution_node();
+        (actions.into_iter().map(|action| action as u8).collect(), node)
+    }
+}

@@ -1,0 +1,17 @@
+//! Trees over lent records: what the functions of include/crafty.h on them answer, by the Rust's own arena and by a model
+//! of the scope's paper, held to what a host of the archive says.
+
+mod answer;
+mod arena;
+mod call;
+mod count;
+mod damage;
+mod fixed;
+mod floats;
+mod generate;
+mod record;
+mod run;
+mod sequence;
+mod sound;
+
+pub use run::compare;
