@@ -17,8 +17,10 @@ has_compiler() {
     command -v cc > /dev/null
 }
 
+# Anew only where a crate has changed since.
 build_archive() {
     mkdir -p "$built"
+    [ -n "$(find "$root/crates" "$root/crates.txt" -newer "$archive" 2>&1 | head -n 1)" ] || return 0
     (cd "$root" && rt staticlib crafty_c) > "$built/archive.log" 2>&1 || { cat "$built/archive.log" >&2; exit 1; }
 }
 
