@@ -1,5 +1,5 @@
-// The engine for hosts in C and Rust: a static library of functions on numbers and bytes, which include/crafty.h declares.
-// Every function takes any numbers and bytes, and refuses by document 01's numbers; a refusal leaves what was lent as it was.
+// The engine for hosts in C and Rust: a static library of functions on numbers, bytes and records, which include/crafty.h declares.
+// Every function takes any of these, and refuses by document 01's numbers; a refusal leaves what was lent as it was.
 mod answer;
 mod numbers;
 mod replays;

@@ -12,7 +12,7 @@ use Rattle.refusal.specs.declared.Checked.{Checked}
 use Rattle.refusal.specs.declared.Checked.the-variants as C
 use Rattle.refusal.specs.declared.Report.{Report}
 use Rattle.refusal.specs.Report.{reportOf, success}
-use Rattle.refusal.specs.Judge.{Test, judged, Kind, Says}
+use Rattle.refusal.specs.Judge.{Test, Kind}
 use Rattle.tree.specs.declared.node.Node.{Node}
 use Rattle.tree.specs.declared.climb.Survey.{Survey}
 use Rattle.tree.specs.declared.back.Propagated.{Propagated}
@@ -20,6 +20,7 @@ use Rattle.tree.specs.declared.back.Propagated.the-variants as P
 use Rattle.tree.specs.Node.{isFull, scoreTest}
 use Rattle.tree.specs.Tree.{isAbove, pathOf, anyFull, backOf}
 use Rattle.tree.specs.TreeLaws.{Falls}
+use Rattle.tree.specs.Grow.{Changes}
 use Rattle.tree.specs.Refusals.{nodeTest, backTests}
 
 -- ---- the entry
@@ -32,11 +33,9 @@ propagatedTold (P.Refused x) = reportOf x
 abbrev pub propagated : Kind Propagated
 propagated = record { told = propagatedTold; refused = P.Refused; refusing = λ x. refl }
 
-pub record Propagates (nodes : List Node) (count start target : ℕ) (score : Float) (r : Propagated) (after : List Node) : Type 0 where
-  -- refusals 7, 8 for start or target, 9, 10 and 11
-  pub says : Says propagated (backTests nodes count start target score) P.Done r
-  -- the records on the path are touched, and no other; a refusal leaves every record
-  pub records : after ≡ judged (λ x. nodes) (backOf nodes start target score) (backTests nodes count start target score)
+-- refusals 7, 8 for start or target, 9, 10 and 11; the records on the path are touched, and no other
+abbrev pub Propagates : List Node → ℕ → ℕ → ℕ → Float → Propagated → List Node → Type 0
+Propagates nodes count start target score r after = Changes propagated (backTests nodes count start target score) P.Done nodes (backOf nodes start target score) r after
 
 -- ---- the way up
 
