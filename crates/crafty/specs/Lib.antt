@@ -6,3 +6,4 @@ pub mod Lists
 pub mod ListLaws
 pub mod Program
 pub mod ProgramLaws
+pub mod OneAnswer

@@ -5,3 +5,4 @@ pub mod Replays
 pub mod Texts
 pub mod Trees
 pub mod TreeLaws
+pub mod OneAnswer
