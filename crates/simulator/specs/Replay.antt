@@ -9,13 +9,11 @@ use Rattle.craft_state.specs.declared.state.CraftState.{CraftState}
 use Rattle.craft_state.specs.Start.{startOf}
 use Rattle.step.specs.Step.{executeOf}
 use Rattle.moves.specs.declared.mode.Mode.{Mode}
-use Rattle.moves.specs.Moves.{passesOf, movesOf}
+use Rattle.moves.specs.Moves.{movesOf}
 use Rattle.score.specs.declared.result.CraftResult.{CraftResult}
 use Rattle.score.specs.declared.result.CraftResult.the-variants as R
 use Rattle.score.specs.Result.{resultOf}
 use Rattle.simulator.specs.declared.replay.Replay.{Replay}
-use Rattle.simulator.specs.declared.replay.Next.{Next}
-use Rattle.simulator.specs.declared.replay.Next.the-variants as N
 
 abbrev pub goesOn : CraftResult → Bool
 goesOn (R.Finished score) = false
@@ -34,10 +32,6 @@ stopOf c mode s executed = reportOf c mode s executed (resultOf c s mode)
 
 unfoldable pub slipOf : CraftContext → Mode → CraftState → ℕ → Replay
 slipOf c mode s executed = reportOf c mode s executed R.InvalidActionFailure
-
--- the next action, in a state that has not ended
-abbrev pub nextOf : CraftContext → Mode → CraftState → ℕ → Next
-nextOf c mode s n = cond (passesOf c s mode n) (N.To (executeOf c s n)) N.Outside
 
 -- ---- the rest of a list in a state, after so many actions
 

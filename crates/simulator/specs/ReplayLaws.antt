@@ -27,8 +27,7 @@ use Rattle.moves.specs.MoveLaws.{has-moves}
 use Rattle.score.specs.declared.result.CraftResult.the-variants as R
 use Rattle.score.specs.Score.{scoreOf}
 use Rattle.score.specs.Result.{judgedBy, resultOf}
-use Rattle.simulator.specs.declared.replay.Next.the-variants as N
-use Rattle.simulator.specs.Replay.{goesOn, stopOf, slipOf, nextOf, replayFrom}
+use Rattle.simulator.specs.Replay.{goesOn, stopOf, slipOf, replayFrom}
 
 module _ (c : CraftContext) (mode : Mode) (s : CraftState) where
   -- ---- the result of a state that has ended, and of one that has not
@@ -65,20 +64,6 @@ module _ (c : CraftContext) (mode : Mode) (s : CraftState) where
       by false f = refl
 
   -- ---- the next action
-
-  pub next-to : (n : ℕ) {x : CraftState} → N.To x ≡ nextOf c mode s n → (passesOf c s mode n ≡ true) × (x ≡ executeOf c s n)
-  next-to n {x} = by (passesOf c s mode n)
-    where
-      by : (b : Bool) → N.To x ≡ cond b (N.To (executeOf c s n)) N.Outside → (b ≡ true) × (x ≡ executeOf c s n)
-      by true e = let same : x ≡ executeOf c s n = cc in (refl, same)
-      by false e = let z : _≡_ {A = ℕ} 0 1 = cc in absurd (omega arith)
-
-  pub next-outside : (n : ℕ) → N.Outside ≡ nextOf c mode s n → passesOf c s mode n ≡ false
-  next-outside n = by (passesOf c s mode n)
-    where
-      by : (b : Bool) → N.Outside ≡ cond b (N.To (executeOf c s n)) N.Outside → b ≡ false
-      by true e = let z : _≡_ {A = ℕ} 0 1 = cc in absurd (omega arith)
-      by false e = refl
 
   module _ (n : ℕ) (h : n < actions) where
     pub legal-is : {b : Bool} → ended c s ≡ false → passesOf c s mode n ≡ b → has (movesOf c s mode) n ≡ b

@@ -1,14 +1,12 @@
 // Replay in a mode: action after action, each tested where it stands.
 ghost use mathlib.Core.Path.{_≡_};
-ghost use mathlib.Core.Bool.{false};
-ghost use Prim.Native.Nat.{_≤_, _<_};
+ghost use Prim.Native.Nat.{_≤_};
 ghost use lib.ListN.{length};
-ghost use Rattle.action.specs.Known.{actions, knownFront};
+ghost use Rattle.action.specs.Known.{knownFront};
 ghost use Rattle.craft_context.specs.Limits.{ContextIn};
 ghost use Rattle.craft_state.specs.Inside.{Given};
-ghost use Rattle.moves.specs.Moves.{ended};
 ghost use Rattle.score.specs.Result.{Sound};
-ghost use Rattle.simulator.specs.Replay.{stopOf, slipOf, nextOf, replayOf};
+ghost use Rattle.simulator.specs.Replay.{stopOf, slipOf, replayOf};
 use action_set::ActionSet;
 use craft_context::CraftContext;
 use craft_state::CraftState;
@@ -51,24 +49,6 @@ fn slip(context: CraftContext, mode: Mode, state: CraftState, executed: usize) -
     }
 }
 
-// The state after an action, or that the action is not among the moves.
-pub enum Next {
-    To(CraftState),
-    Outside,
-}
-
-// One candidate is tested, in a state that has not ended.
-fn advance(context: CraftContext, mode: Mode, state: CraftState, n: u8) -> Next
-    requires { ⌜ Given context state × (n < actions) × (ended context state ≡ false) ⌝ }
-    ensures { λ r. ⌜ r ≡ nextOf context mode state n ⌝ }
-{
-    if moves::passes(context, state, mode, n) {
-        let next = step::execute(context, state, n);
-        return Next::To(next);
-    }
-    Next::Outside
-}
-
 // One loop, broken with its report where it stops.
 pub fn execute_actions(context: CraftContext, mode: Mode, list: &[u8]) -> Replay
     requires { ⌜ ContextIn context × (length (now list) ≤ knownFront (now list)) ⌝ }
@@ -83,11 +63,11 @@ pub fn execute_actions(context: CraftContext, mode: Mode, list: &[u8]) -> Replay
         if i >= list.len() {
             break stop(context, mode, state, i);
         }
-        let next = advance(context, mode, state, list[i]);
-        let Next::To(after) = next else {
+        let n = list[i];
+        if !moves::passes(context, state, mode, n) {
             break slip(context, mode, state, i);
-        };
-        state = after;
+        }
+        state = step::execute(context, state, n);
         i += 1;
     };
     report

@@ -1,20 +1,20 @@
 -- `simulator::replay::execute_actions` meets its contract.
 -- Assumes nothing.
 use mathlib.Core.Path.{_≡_, sym, ap, subst, _∙_}
-use mathlib.Core.Bool.{false}
+use mathlib.Core.Bool.{true, false}
 use Prim.Native.Nat.{_+_, _≤_, _<_, _-_}
 use native.Mathlib.Omega.{arith}
 use lib.ListN.{length, drop, getD}
-use borrow.Author.Needs.{needs}
+use borrow.Author.Tests.{not-true, not-false}
 use Rattle.action.specs.Known.{actions}
 use Rattle.action.specs.KnownLaws.{known-each}
 use Rattle.craft_state.specs.declared.state.CraftState.{CraftState}
 use Rattle.craft_state.specs.Inside.{Given}
 use Rattle.craft_state.specs.InsideLaws.{start-in}
-use Rattle.moves.specs.Moves.{ended}
-use Rattle.moves.specs.MoveLaws.{legal-keeps}
+use Rattle.moves.specs.Moves.{ended, passesOf}
+use Rattle.moves.specs.MoveLaws.{legal-keeps, legal-playable}
 use Rattle.simulator.specs.Replay.{replayFrom, replayOf}
-use Rattle.simulator.specs.ReplayLaws.{legal-is, next-to, next-outside, replay-stop, place-on, place-slip, place-end}
+use Rattle.simulator.specs.ReplayLaws.{legal-is, replay-stop, place-on, place-slip, place-end}
 use Rattle.simulator.proofs.replay.execute_actions.Statement.{statement}
 use Rattle.simulator.proofs.replay.execute_actions.Tie as tie
 
@@ -32,6 +32,13 @@ going c = sym (c .before .has-ended .ensures) ∙ c .if1 .left
 known : (c : tie.After-shared-slice-known2 Inv-loop μ-loop) → getD (c .before .before .before .before .before .before .before .args .list .now) (c .before .before .before .before .loop .i) 0 < actions
 known c = known-each _ (c .before .before .before .before .before .before .before .pre .1) _ (omega arith)
 
+-- it passes the test
+passed : (c : tie.Else3 Inv-loop μ-loop)
+    → let k = c .before .before in
+    let s = k .before .before .before .before .before .before .before in
+    passesOf (s .args .context) (k .before .before .before .before .loop .state) (s .args .mode) (getD (s .args .list .now) (k .before .before .before .before .loop .i) 0) ≡ true
+passed c = sym (c .before .passes .ensures) ∙ not-false _ (c .if3 .left)
+
 pub execute-actions-spec : {M : Type 1} → statement M
 unfolding replayOf
 execute-actions-spec =
@@ -45,21 +52,22 @@ execute-actions-spec =
     (λ c κs. c .before .before .loop .inv .2)
     (λ c κs. c .before .before .before .loop .inv .2)
     (λ c. omega arith)
-    (λ c κs. (c .before .before .before .before .loop .inv .2, known c, going (c .before .before)))
-    (λ c. search needs)
-    (λ c. search needs)
-    (λ c κs. c .before .before .before .before .before .before .before .loop .inv .2)
+    (λ c κs. (c .before .before .before .before .loop .inv .2, known c))
+    (λ c κs. c .before .before .before .before .before .before .loop .inv .2)
+    (λ c κs.
+    let k = c .before .before in
+    let inside = k .before .before .before .before .loop .inv .2 in
+    legal-playable _ _ _ _ inside (known k) (legal-is _ _ _ _ (known k) (going (k .before .before)) (passed c)))
     (λ c. omega arith)
     (λ c. omega arith)
     (λ c.
-    let a = c .before .before .before in
-    let k = a .before in
+    let k = c .before .before .before in
     let l = k .before .before .before .before .loop in
     let s = k .before .before .before .before .before .before .before in
-    let to = next-to (s .args .context) (s .args .mode) (l .state) _ (sym (c .before .next .given .1) ∙ a .advance .ensures) in
-    let on = place-on _ _ (l .state) (s .args .list .now) (l .i) (omega arith) (known k) (going (k .before .before)) (to .0) in
-    let inside = legal-keeps _ (l .state) _ _ (l .inv .2) (known k) (legal-is _ _ (l .state) _ (known k) (going (k .before .before)) (to .0)) in
-    (omega arith, ap (λ (x : CraftState). replayFrom (s .args .context) (s .args .mode) x (l .i + 1) (drop (l .i + 1) (s .args .list .now))) (to .1) ∙ sym on ∙ l .inv .1, subst (Given (s .args .context)) (sym (to .1)) inside))
+    let to = c .execute .ensures in
+    let on = place-on _ _ (l .state) (s .args .list .now) (l .i) (omega arith) (known k) (going (k .before .before)) (passed (c .before)) in
+    let inside = legal-keeps _ (l .state) _ _ (l .inv .2) (known k) (legal-is _ _ (l .state) _ (known k) (going (k .before .before)) (passed (c .before))) in
+    (omega arith, ap (λ (x : CraftState). replayFrom (s .args .context) (s .args .mode) x (l .i + 1) (drop (l .i + 1) (s .args .list .now))) to ∙ sym on ∙ l .inv .1, subst (Given (s .args .context)) (sym to) inside))
     (λ c.
     let e = c .before .before in
     let l = e .before .loop in
@@ -69,9 +77,9 @@ execute-actions-spec =
     let s = c .before .before .before .before .before .before .before in
     (c .stop2 .ensures .0 ∙ sym (place-end _ _ (l .state) (s .args .list .now) (l .i) (l .inv .0) (omega arith)) ∙ l .inv .1, c .stop2 .ensures .1))
     (λ c.
-    let a = c .before .before .before in
-    let k = a .before in
+    let t = c .before in
+    let k = t .before .before in
     let l = k .before .before .before .before .loop in
     let s = k .before .before .before .before .before .before .before in
-    let out = next-outside (s .args .context) (s .args .mode) (l .state) _ (sym (c .before .enum-told .given .1) ∙ a .advance .ensures) in
+    let out = sym (t .before .passes .ensures) ∙ not-true _ (t .if3 .taken) in
     (c .slip .ensures .0 ∙ sym (place-slip _ _ (l .state) (s .args .list .now) (l .i) (omega arith) (known k) (going (k .before .before)) out) ∙ l .inv .1, c .slip .ensures .1)))
