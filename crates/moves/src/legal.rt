@@ -3,9 +3,9 @@ ghost use mathlib.Core.Path.{_≡_};
 ghost use Prim.Native.Nat.{_<_};
 ghost use Rattle.laws.specs.Bits.{has};
 ghost use Rattle.action.specs.Known.{actions};
-ghost use Rattle.action_set.specs.Set.{Inside};
+ghost use Rattle.action_set.specs.Set.{Inside, keepOf};
 ghost use Rattle.craft_state.specs.Inside.{Given};
-ghost use Rattle.moves.specs.Moves.{ended, passesOf, movesOf};
+ghost use Rattle.moves.specs.Moves.{ended, allowsOf, passesOf, movesOf};
 use super::candidate::allows;
 use super::mode::Mode;
 use action_set::bits;
@@ -21,14 +21,34 @@ pub fn has_ended(context: CraftContext, state: CraftState) -> bool
         | (state.durability <= 0)
 }
 
-// One candidate of a state that has not ended: the pool has it, and it passes the test.
+// The walk over a set: each member is tested, and dropped if it fails.
+fn keep_allowed(context: CraftContext, state: CraftState, mode: Mode, set: u32) -> u32
+    requires { ⌜ Given context state × Inside set ⌝ }
+    ensures { λ r. ⌜ (r ≡ keepOf (allowsOf context state mode) set) × Inside r ⌝ }
+{
+    let mut kept = set;
+    let mut remaining = set;
+    while remaining != 0 {
+        let n = bits::next(remaining);
+        let b = bits::bit(n);
+        remaining -= b;
+        if !allows(context, state, mode, n) {
+            kept -= b;
+        }
+    }
+    kept
+}
+
+// One candidate of a state that has not ended: the pool has it, and it passes the test. The walk over it alone is the fastest test, since the
+// walk's is the only code of it.
 pub fn passes(context: CraftContext, state: CraftState, mode: Mode, n: u8) -> bool
     requires { ⌜ Given context state × (n < actions) ⌝ }
     ensures { λ r. ⌜ r ≡ passesOf context state mode n ⌝ }
 {
     let pool = context.action_pool;
     if bits::holds(pool.0, n) {
-        return allows(context, state, mode, n);
+        let kept = keep_allowed(context, state, mode, bits::bit(n));
+        return bits::holds(kept, n);
     }
     false
 }
@@ -44,7 +64,6 @@ pub fn is_legal(context: CraftContext, state: CraftState, mode: Mode, n: u8) -> 
     passes(context, state, mode, n)
 }
 
-// The walk over the pool.
 pub fn legal_moves(context: CraftContext, state: CraftState, mode: Mode) -> u32
     requires { ⌜ Given context state ⌝ }
     ensures { λ r. ⌜ (r ≡ movesOf context state mode) × Inside r ⌝ }
@@ -53,15 +72,5 @@ pub fn legal_moves(context: CraftContext, state: CraftState, mode: Mode) -> u32
         return 0;
     }
     let pool = context.action_pool;
-    let mut kept = pool.0;
-    let mut remaining = pool.0;
-    while remaining != 0 {
-        let n = bits::next(remaining);
-        let b = bits::bit(n);
-        remaining -= b;
-        if !allows(context, state, mode, n) {
-            kept -= b;
-        }
-    }
-    kept
+    keep_allowed(context, state, mode, pool.0)
 }
