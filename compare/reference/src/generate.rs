@@ -1,7 +1,7 @@
 //! Random cases: mostly inside the limits, and often at their edges.
 
 use crate::actions;
-use crate::case::{Case, NUMBERS, TEXT_ROOM};
+use crate::case::{Case, LAST_KIND, NUMBERS, TEXT_ROOM};
 use crate::contexts::FLAGS;
 use crate::formulas::limits;
 use crate::random::Random;
@@ -9,10 +9,11 @@ use crafty::Action;
 
 const KNOWN: u32 = 31;
 
-/// The kinds take turns, so that each gets its share of the count.
-pub fn cases(seed: u64, count: u64, kinds: &[u8]) -> Vec<Case> {
-    let mut random = Random::new(seed);
-    kinds.iter().cycle().take(count as usize).map(|kind| case(&mut random, *kind)).collect()
+/// So many of each kind, which take turns; each by its number in a run.
+pub fn cases(seed: u64, count: u64) -> impl Iterator<Item = Case> {
+    let kinds = (1..=LAST_KIND).cycle();
+    let numbers = 0..count * u64::from(LAST_KIND);
+    numbers.zip(kinds).map(move |(number, kind)| case(&mut Random::numbered(seed, number), kind))
 }
 
 fn case(random: &mut Random, kind: u8) -> Case {
@@ -77,8 +78,6 @@ fn word(random: &mut Random) -> Vec<u8> {
         5 => word = action.label().as_bytes().to_vec(),
         _ => {}
     }
-    // A line feed would end the line and a zero byte is not text.
-    word.retain(|byte| *byte != b'\n' && *byte != 0);
     word
 }
 

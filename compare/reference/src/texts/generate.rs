@@ -30,7 +30,7 @@ impl Case {
 
 /// The calls of the replays by their number in a run.
 pub fn cases(seed: u64, count: u64) -> impl Iterator<Item = Case> {
-    let replays = (0..count).zip(replays::random(seed, 0, count));
+    let replays = (0..count).zip(replays::random(seed, count));
     replays.flat_map(move |(number, replay)| {
         of_replay(&mut Random::numbered(seed, OF_TEXT + number), &replay)
     })

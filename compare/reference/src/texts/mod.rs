@@ -3,7 +3,6 @@
 
 mod answer;
 mod call;
-mod count;
 mod damage;
 mod fixed;
 mod generate;
@@ -13,4 +12,4 @@ mod output;
 mod run;
 mod timing;
 
-pub use run::{compare, end, start, Host};
+pub use run::compare;

@@ -4,7 +4,6 @@
 mod answer;
 mod arena;
 mod call;
-mod count;
 mod damage;
 mod fixed;
 mod floats;
