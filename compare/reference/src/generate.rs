@@ -65,7 +65,7 @@ fn room(random: &mut Random, needed: u32, greatest: u32) -> u32 {
 }
 
 /// A name, a name with one byte damaged, or a label.
-fn word(random: &mut Random) -> Vec<u8> {
+pub fn word(random: &mut Random) -> Vec<u8> {
     let action = action(random);
     let mut word = action.name().as_bytes().to_vec();
     let place = random.place(word.len());
@@ -136,7 +136,7 @@ fn around(random: &mut Random, limit: u32) -> u32 {
 }
 
 /// Player, recipe and options: nearly all inside the limits, with levels near each other.
-fn sheet(random: &mut Random) -> [u32; NUMBERS] {
+pub fn sheet(random: &mut Random) -> [u32; NUMBERS] {
     let level = random.between(1, 110);
     let near = (level + random.below(24)).saturating_sub(12);
     let recipe_level = if random.one_in(8) { random.bits() } else { near };

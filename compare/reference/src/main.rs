@@ -1,9 +1,10 @@
 //! The Rust's side of the comparison. `WHAT SEED COUNT PROGRAM..` has our program, the command PROGRAM.., answer a fixed
-//! list and COUNT random ones of WHAT, and holds each answer to the Rust's. `sample PROGRAM FILE` writes the fixed list
-//! of a program of ours as its `stdin`, or the Rust's answers as its `stdout`.
+//! list and COUNT random ones of WHAT, or COUNT bad inputs, and holds each answer to the Rust's or to its refusal.
+//! `sample PROGRAM FILE` writes the fixed list of a program of ours as its `stdin`, or the Rust's answers as its `stdout`.
 
 mod actions;
 mod ask;
+mod bad;
 mod case;
 mod cases;
 mod contexts;
@@ -28,7 +29,7 @@ use lined::Lined;
 use std::io::{self, Write};
 
 const COMMANDS: &str = "sample PROGRAM FILE | WHAT SEED COUNT PROGRAM.., \
-    where WHAT is cases, states, displays, replays, texts or trees";
+    where WHAT is cases, states, displays, replays, texts or trees, or bad-cases, bad-crafts, bad-texts or bad-trees";
 
 fn main() -> io::Result<()> {
     let arguments: Vec<String> = std::env::args().skip(1).collect();
@@ -51,6 +52,10 @@ fn compare(what: &str, seed: u64, count: u64, program: &[&str]) -> io::Result<()
         "replays" => crafts::compare_replays(seed, count, program),
         "texts" => texts::compare(seed, count, program),
         "trees" => trees::compare(seed, count, program),
+        "bad-cases" => bad::compare_cases(seed, count, program),
+        "bad-crafts" => bad::compare_crafts(seed, count, program),
+        "bad-texts" => bad::compare_texts(seed, count, program),
+        "bad-trees" => bad::compare_trees(seed, count, program),
         _ => fail_usage(),
     }
 }

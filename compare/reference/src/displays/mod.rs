@@ -10,4 +10,4 @@ pub use answer::answer;
 pub use count::{count, events};
 pub use fixed::displays as fixed;
 pub use generate::displays as random;
-pub use line::write;
+pub use line::{with_room, write, ROOM_MOST};

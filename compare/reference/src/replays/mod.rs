@@ -12,4 +12,4 @@ pub use answer::{answer, PARTS};
 pub use count::{count, events};
 pub use fixed::replays as fixed;
 pub use generate::{replay as random_one, replays as random};
-pub use line::{write, Replay};
+pub use line::{write, Replay, LIST_MOST, UNKNOWN_MOST};

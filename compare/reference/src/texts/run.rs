@@ -20,7 +20,7 @@ pub fn compare(seed: u64, count: u64, host: &[&str]) -> io::Result<()> {
     timing::print(host)
 }
 
-pub fn count_case(counts: &mut Counts, case: &Case) {
+fn count_case(counts: &mut Counts, case: &Case) {
     counts.answered(case.call.function.name(), case.answer.number as usize);
     if let Some(met) = &case.met {
         counts.met(&format!("text, {met}"));
