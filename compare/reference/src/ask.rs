@@ -44,10 +44,11 @@ pub fn ask<Q: Question>(
     let mut asked = 0;
     for question in receiver.into_iter().flatten() {
         asked += 1;
-        if let Some(difference) = question.difference(&mut stdout)? {
-            fail(format!("question {asked} of the run: {difference}"));
+        match question.difference(&mut stdout) {
+            Ok(None) => meet(&question),
+            Ok(Some(difference)) => fail(format!("question {asked} of the run: {difference}")),
+            Err(error) => fail(format!("question {asked} of the run has no answer: {error}")),
         }
-        meet(&question);
     }
     asking.join().expect("a thread that asks")?;
     end(child, stdout)?;

@@ -55,7 +55,7 @@ impl<T: Lined> Question for Asked<T> {
         let mut said = Vec::new();
         answers.read_until(b'\n', &mut said)?;
         let is_same = said.strip_suffix(b"\n") == Some(self.answer.as_bytes());
-        Ok((!is_same).then(|| self.shown(&String::from_utf8_lossy(&said))))
+        Ok((!is_same).then(|| self.shown(String::from_utf8_lossy(&said).trim_end_matches('\n'))))
     }
 }
 

@@ -60,7 +60,7 @@ pub fn report(counts: &Counts, entries: &[Entry], asked: u64, seed: u64) {
         for (number, met) in counts.of(entry).into_iter().enumerate() {
             let is_possible = number == 0 || refusals.contains(&number);
             if is_possible && met < asked / LEAST_ONCE_IN {
-                fail(format!("{entry} gave {number} only {met} times"));
+                fail(format!("{entry} gave {number} (0 is an answer) only {met} times"));
             }
             if !is_possible && met > 0 {
                 fail(format!("{entry} cannot give {number}, but gave it {met} times"));
