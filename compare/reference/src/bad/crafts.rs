@@ -60,11 +60,7 @@ fn state(random: &mut Random) -> Numbers {
 
 fn replay(random: &mut Random) -> Replay {
     let mut replay = replays::random_one(random);
-    match random.below(4) {
-        0 => numbers::replace(random, &mut replay.context),
-        1 => numbers::damage(random, &mut replay.context),
-        _ => {}
-    }
+    numbers::spoil(random, &mut replay.context);
     if random.one_in(2) {
         replay.list = list(random);
     }

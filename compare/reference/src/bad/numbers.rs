@@ -31,3 +31,12 @@ pub fn damage(random: &mut Random, numbers: &mut [u32]) {
             if random.one_in(2) { any(random) } else { numbers[place] ^ 1 << random.below(32) };
     }
 }
+
+/// One time in four all of them, one time in four some.
+pub fn spoil(random: &mut Random, numbers: &mut [u32]) {
+    match random.below(4) {
+        0 => replace(random, numbers),
+        1 => damage(random, numbers),
+        _ => {}
+    }
+}

@@ -43,11 +43,7 @@ fn call(random: &mut Random, function: Function) -> Call {
 
 fn replay(random: &mut Random) -> Call {
     let mut replay = random_one(random);
-    match random.below(4) {
-        0 => numbers::replace(random, &mut replay.context),
-        1 => numbers::damage(random, &mut replay.context),
-        _ => {}
-    }
+    numbers::spoil(random, &mut replay.context);
     Call::replay(replay.context, replay.mode, &list(random))
 }
 
