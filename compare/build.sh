@@ -1,10 +1,12 @@
-# Read by `run`, `sample` and `batches.sh`: finds the Rust source and builds the side that answers from it.
+# Read by the scripts beside it: finds the Rust source, builds the side that answers from it, and has it ask ours.
 
 root=$(cd "$(dirname "${BASH_SOURCE[0]}")/.." && pwd)
 out=$root/target/compare
 reference=$out/release/reference
 CRAFTY_SRC=$(realpath -m "${CRAFTY_SRC:-$root/../shared/docs/src}")
 export CRAFTY_SRC
+seed=${1:-1}
+count=${2:-20000}
 
 has_source() {
     [ -f "$CRAFTY_SRC/crafty/src/action.rs" ]
@@ -20,9 +22,36 @@ fail() {
     exit 1
 }
 
-# check_sample PROGRAM FIXED ANSWER: the sample that rt ci replays is the Rust's, as it is now.
+# skip WHY: ends the script.
+skip() {
+    echo "skipped: compare/$(basename "$0"), $1"
+    exit 0
+}
+
+# Without the Rust there is nothing to compare with.
+build_reference() {
+    has_source || skip "no Rust source at $CRAFTY_SRC"
+    build
+}
+
+# A program of C that calls the archive for another process, as the words of `command`.
+build_host() {
+    source "$root/bindings/build.sh"
+    has_compiler || skip "no C compiler"
+    build_archive
+    build_program host "$root/bindings/host.c"
+    set_command host
+}
+
+# check_sample PROGRAM: the sample that rt ci replays is the Rust's, as it is now.
 check_sample() {
-    "$reference" "$2" | cmp -s - "$root/crates/$1/stdin" \
-        && "$reference" "$3" < "$root/crates/$1/stdin" | cmp -s - "$root/crates/$1/stdout" \
-        || fail "crates/$1 has another sample than compare/sample writes"
+    for file in stdin stdout; do
+        "$reference" sample "$1" "$file" | cmp -s - "$root/crates/$1/$file" \
+            || fail "crates/$1/$file is not what compare/sample writes"
+    done
+}
+
+# ask WHAT PROGRAM..: of the Rust's side and of ours.
+ask() {
+    "$reference" "$1" "$seed" "$count" "${@:2}"
 }

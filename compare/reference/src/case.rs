@@ -1,10 +1,9 @@
 //! The line of a case; its layout and the kinds stand in docs/COMPARISON.md.
 
-pub const WIDTH: usize = 256;
+const WIDTH: usize = 256;
 pub const LAST_KIND: u8 = 21;
 pub const TEXT_ROOM: usize = 36;
 pub const NUMBERS: usize = 19;
-const TEXT_START: usize = 212;
 
 pub struct Case {
     pub kind: u8,
@@ -48,25 +47,9 @@ impl Case {
         line.push(b'\n');
         line
     }
-
-    /// None unless the line is exactly one that `line` writes.
-    pub fn read(line: &[u8]) -> Option<Case> {
-        let mut numbers = [0; NUMBERS];
-        for (place, number) in numbers.iter_mut().enumerate() {
-            *number = digits(line.get(3 + 11 * place..13 + 11 * place)?)?;
-        }
-        let kind = u8::try_from(digits(&line[..2])?).ok()?;
-        let text = line.get(TEXT_START..TEXT_START + TEXT_ROOM)?.try_into().ok()?;
-        let case = Case { kind, numbers, text };
-        ((1..=LAST_KIND).contains(&kind) && case.line() == line).then_some(case)
-    }
 }
 
 /// A number below 64 as one byte that can be read in a line.
 pub fn mark(number: u32) -> char {
     char::from(b'@' + number as u8)
-}
-
-pub fn digits(bytes: &[u8]) -> Option<u32> {
-    std::str::from_utf8(bytes).ok()?.parse().ok()
 }

@@ -1,8 +1,13 @@
 //! The lines that our program `states` answers: craft states, replays and Display lines.
 
+use crate::ask::ask;
 use crate::displays;
+use crate::lined::{Asked, Lined};
+use crate::refusal::Refusal;
 use crate::replays::{self, Replay};
+use crate::states::tally::{Event, Tally};
 use crate::states::{self, Numbers};
+use std::io;
 
 pub enum Craft {
     State(Numbers),
@@ -17,24 +22,70 @@ pub fn fixed() -> impl Iterator<Item = Craft> {
     states.chain(replays).chain(displays::fixed().into_iter().map(Craft::Display))
 }
 
-pub fn write(craft: &Craft) -> Vec<u8> {
-    match craft {
-        Craft::State(numbers) => states::write(numbers),
-        Craft::Replay(replay) => replays::write(replay),
-        Craft::Display(numbers) => displays::write(numbers),
+pub fn compare_states(seed: u64, count: u64, program: &[&str]) -> io::Result<()> {
+    let states = states::fixed().into_iter().chain(states::random(seed, count));
+    compare("states", seed, states.map(Craft::State), states::events(), program)
+}
+
+pub fn compare_replays(seed: u64, count: u64, program: &[&str]) -> io::Result<()> {
+    let replays = replays::fixed().into_iter().chain(replays::random(seed, count));
+    compare("replays", seed, replays.map(Craft::Replay), replays::events(), program)
+}
+
+pub fn compare_displays(seed: u64, count: u64, program: &[&str]) -> io::Result<()> {
+    let displays = displays::fixed().into_iter().chain(displays::random(seed, count));
+    compare("displays", seed, displays.map(Craft::Display), displays::events(), program)
+}
+
+fn compare(
+    name: &str,
+    seed: u64,
+    crafts: impl Iterator<Item = Craft> + Send + 'static,
+    events: Vec<Event>,
+    program: &[&str],
+) -> io::Result<()> {
+    let mut tally = Tally::new(events);
+    let asked = ask(program, crafts.map(Asked::new), |craft| {
+        if let Err(refusal) = craft.what.count(&mut tally) {
+            tally.add(Event::refused(refusal));
+        }
+    })?;
+    println!("{tally}compare: {asked} {name} equal, seed {seed}");
+    Ok(())
+}
+
+impl Craft {
+    fn count(&self, tally: &mut Tally) -> Result<(), Refusal> {
+        match self {
+            Craft::State(numbers) => states::count(tally, numbers),
+            Craft::Replay(replay) => replays::count(tally, replay),
+            Craft::Display(numbers) => displays::count(tally, numbers),
+        }
     }
 }
 
-pub fn read(line: &[u8]) -> Option<Craft> {
-    let state = states::read(line).map(Craft::State);
-    let replay = || replays::read(line).map(Craft::Replay);
-    state.or_else(replay).or_else(|| displays::read(line).map(Craft::Display))
-}
+impl Lined for Craft {
+    fn line(&self) -> Vec<u8> {
+        match self {
+            Craft::State(numbers) => states::write(numbers),
+            Craft::Replay(replay) => replays::write(replay),
+            Craft::Display(numbers) => displays::write(numbers),
+        }
+    }
 
-pub fn answer(craft: &Craft) -> String {
-    match craft {
-        Craft::State(numbers) => states::answer(numbers),
-        Craft::Replay(replay) => replays::answer(replay),
-        Craft::Display(numbers) => displays::answer(numbers),
+    fn answer(&self) -> String {
+        match self {
+            Craft::State(numbers) => states::answer(numbers),
+            Craft::Replay(replay) => replays::answer(replay),
+            Craft::Display(numbers) => displays::answer(numbers),
+        }
+    }
+
+    fn part(&self, place: usize) -> String {
+        match self {
+            Craft::State(_) => states::part(place),
+            Craft::Replay(_) => replays::PARTS[place].to_string(),
+            Craft::Display(_) => "length or refusal, and room".to_string(),
+        }
     }
 }

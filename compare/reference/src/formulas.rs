@@ -5,11 +5,13 @@ use crafty::{Action, ActionSet, CraftContext, CraftState};
 
 /// A trained perfection by the numbers it has in a case.
 pub const PERFECTIONS: [Option<bool>; 3] = [None, Some(true), Some(false)];
+/// The answer beyond the limits.
+pub const OUTSIDE: &str = "outside";
 
 pub fn answer(case: &Case) -> String {
     let inside = case.numbers.iter().zip(limits(case.kind)).all(|(number, limit)| *number <= limit);
     if !inside {
-        return "outside".to_string();
+        return OUTSIDE.to_string();
     }
     match case.kind {
         18 => progress_increase(case.numbers),

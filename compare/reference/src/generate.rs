@@ -1,7 +1,7 @@
 //! Random cases: mostly inside the limits, and often at their edges.
 
 use crate::actions;
-use crate::case::{Case, NUMBERS, TEXT_ROOM};
+use crate::case::{Case, LAST_KIND, NUMBERS, TEXT_ROOM};
 use crate::contexts::FLAGS;
 use crate::formulas::limits;
 use crate::random::Random;
@@ -9,10 +9,11 @@ use crafty::Action;
 
 const KNOWN: u32 = 31;
 
-/// The kinds take turns, so that each gets its share of the count.
-pub fn cases(seed: u64, count: u64, kinds: &[u8]) -> Vec<Case> {
-    let mut random = Random::new(seed);
-    kinds.iter().cycle().take(count as usize).map(|kind| case(&mut random, *kind)).collect()
+/// So many of each kind, which take turns; each by its number in a run.
+pub fn cases(seed: u64, count: u64) -> impl Iterator<Item = Case> {
+    let kinds = (1..=LAST_KIND).cycle();
+    let numbers = 0..count * u64::from(LAST_KIND);
+    numbers.zip(kinds).map(move |(number, kind)| case(&mut Random::numbered(seed, number), kind))
 }
 
 fn case(random: &mut Random, kind: u8) -> Case {
@@ -64,7 +65,7 @@ fn room(random: &mut Random, needed: u32, greatest: u32) -> u32 {
 }
 
 /// A name, a name with one byte damaged, or a label.
-fn word(random: &mut Random) -> Vec<u8> {
+pub fn word(random: &mut Random) -> Vec<u8> {
     let action = action(random);
     let mut word = action.name().as_bytes().to_vec();
     let place = random.place(word.len());
@@ -77,8 +78,6 @@ fn word(random: &mut Random) -> Vec<u8> {
         5 => word = action.label().as_bytes().to_vec(),
         _ => {}
     }
-    // A line feed would end the line and a zero byte is not text.
-    word.retain(|byte| *byte != b'\n' && *byte != 0);
     word
 }
 
@@ -137,7 +136,7 @@ fn around(random: &mut Random, limit: u32) -> u32 {
 }
 
 /// Player, recipe and options: nearly all inside the limits, with levels near each other.
-fn sheet(random: &mut Random) -> [u32; NUMBERS] {
+pub fn sheet(random: &mut Random) -> [u32; NUMBERS] {
     let level = random.between(1, 110);
     let near = (level + random.below(24)).saturating_sub(12);
     let recipe_level = if random.one_in(8) { random.bits() } else { near };

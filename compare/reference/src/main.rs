@@ -1,18 +1,21 @@
-//! The Rust's side of the comparison: `fixed`, `edges` and `random SEED COUNT KIND..` write cases, `answer`
-//! reads cases from standard input and writes one line for each. Of craft states and replays, whose lines are
-//! wider: `fixed-states`, `random-states SEED FIRST COUNT`, and `count-states`, what they meet; the same of
-//! replays and of displays; and of all three `fixed-crafts`, and `answer-crafts`. `compare-texts SEED COUNT HOST..`
-//! asks a host of the archive, the command HOST.., for whole crafts as text and numbers, and `compare-trees` for trees.
+//! The Rust's side of the comparison. `WHAT SEED COUNT PROGRAM..` has our program, the command PROGRAM.., answer a fixed
+//! list and COUNT random ones of WHAT, or COUNT bad inputs, and holds each answer to the Rust's or to its refusal.
+//! `sample PROGRAM FILE` writes the fixed list of a program of ours as its `stdin`, or the Rust's answers as its `stdout`.
 
 mod actions;
+mod ask;
+mod bad;
 mod case;
+mod cases;
 mod contexts;
+mod counts;
 mod crafts;
 mod displays;
 mod edges;
 mod fixed;
 mod formulas;
 mod generate;
+mod lined;
 mod random;
 mod refusal;
 mod replays;
@@ -22,66 +25,47 @@ mod states;
 mod texts;
 mod trees;
 
-use case::{Case, LAST_KIND, WIDTH};
-use states::tally::Tally;
-use std::io::{self, Read, Write};
+use lined::Lined;
+use std::io::{self, Write};
 
-const COMMANDS: &str = "fixed | edges | random SEED COUNT KIND.. | answer \
-    | fixed-states | random-states SEED FIRST COUNT | count-states \
-    | fixed-replays | random-replays SEED FIRST COUNT | count-replays \
-    | fixed-displays | random-displays SEED FIRST COUNT | count-displays \
-    | fixed-crafts | answer-crafts | compare-texts SEED COUNT HOST.. | compare-trees SEED COUNT HOST..";
+const COMMANDS: &str = "sample PROGRAM FILE | WHAT SEED COUNT PROGRAM.., \
+    where WHAT is cases, states, displays, replays, texts or trees, or bad-cases, bad-crafts, bad-texts or bad-trees";
 
 fn main() -> io::Result<()> {
     let arguments: Vec<String> = std::env::args().skip(1).collect();
     let words: Vec<&str> = arguments.iter().map(String::as_str).collect();
     match words[..] {
-        ["fixed"] => write_cases(&fixed::cases()),
-        ["edges"] => write_cases(&edges::cases()),
-        ["random", seed, count, ref kinds @ ..] => {
-            write_cases(&generate::cases(number(seed), number(count), &of(kinds)))
+        ["sample", "cases", file] => write_sample(file, fixed::cases().into_iter()),
+        ["sample", "states", file] => write_sample(file, crafts::fixed()),
+        [what, seed, count, ref program @ ..] if !program.is_empty() => {
+            compare(what, number(seed), number(count), program)
         }
-        ["answer"] => answer_cases(),
-        ["fixed-states"] => write_lines(states::fixed().into_iter(), states::write),
-        ["random-states", seed, first, count] => {
-            let states = states::random(number(seed), number(first), number(count));
-            write_lines(states, states::write)
-        }
-        ["count-states"] => write_counts(states::read, states::counts),
-        ["fixed-replays"] => write_lines(replays::fixed().into_iter(), replays::write),
-        ["random-replays", seed, first, count] => {
-            let replays = replays::random(number(seed), number(first), number(count));
-            write_lines(replays, replays::write)
-        }
-        ["count-replays"] => write_counts(replays::read, replays::counts),
-        ["fixed-displays"] => write_lines(displays::fixed().into_iter(), displays::write),
-        ["random-displays", seed, first, count] => {
-            let displays = displays::random(number(seed), number(first), number(count));
-            write_lines(displays, displays::write)
-        }
-        ["count-displays"] => write_counts(displays::read, displays::counts),
-        ["fixed-crafts"] => write_lines(crafts::fixed(), crafts::write),
-        ["answer-crafts"] => answer_crafts(),
-        ["compare-texts", seed, count, ref host @ ..] if !host.is_empty() => {
-            texts::compare(number(seed), number(count), host)
-        }
-        ["compare-trees", seed, count, ref host @ ..] if !host.is_empty() => {
-            trees::compare(number(seed), number(count), host)
-        }
-        _ => fail(format!("one of: {COMMANDS}")),
+        _ => fail_usage(),
     }
 }
 
-/// The kinds that are named, or all of them.
-fn of(kinds: &[&str]) -> Vec<u8> {
-    if kinds.is_empty() {
-        return (1..=LAST_KIND).collect();
+fn compare(what: &str, seed: u64, count: u64, program: &[&str]) -> io::Result<()> {
+    match what {
+        "cases" => cases::compare(seed, count, program),
+        "states" => crafts::compare_states(seed, count, program),
+        "displays" => crafts::compare_displays(seed, count, program),
+        "replays" => crafts::compare_replays(seed, count, program),
+        "texts" => texts::compare(seed, count, program),
+        "trees" => trees::compare(seed, count, program),
+        "bad-cases" => bad::compare_cases(seed, count, program),
+        "bad-crafts" => bad::compare_crafts(seed, count, program),
+        "bad-texts" => bad::compare_texts(seed, count, program),
+        "bad-trees" => bad::compare_trees(seed, count, program),
+        _ => fail_usage(),
     }
-    kinds.iter().map(|kind| number(kind) as u8).collect()
 }
 
 fn number(word: &str) -> u64 {
     word.parse().unwrap_or_else(|_| fail(format!("{word} is no number")))
+}
+
+fn fail_usage() -> ! {
+    fail(format!("one of: {COMMANDS}"))
 }
 
 fn fail(why: String) -> ! {
@@ -89,57 +73,14 @@ fn fail(why: String) -> ! {
     std::process::exit(2)
 }
 
-fn write_cases(cases: &[Case]) -> io::Result<()> {
-    let lines: Vec<u8> = cases.iter().flat_map(Case::line).collect();
-    io::stdout().write_all(&lines)
-}
-
-fn answer_cases() -> io::Result<()> {
-    let mut answers = String::new();
-    for case in given(WIDTH, Case::read)? {
-        answers += &answer(&case);
-        answers.push('\n');
-    }
-    io::stdout().write_all(answers.as_bytes())
-}
-
-/// The lines of standard input, all of one width.
-fn given<T>(width: usize, read: fn(&[u8]) -> Option<T>) -> io::Result<Vec<T>> {
-    let mut input = Vec::new();
-    io::stdin().read_to_end(&mut input)?;
-    let lines = input.chunks(width).enumerate();
-    let read_or_fail = |(place, line)| {
-        read(line).unwrap_or_else(|| fail(format!("line {} is no case", place + 1)))
-    };
-    Ok(lines.map(read_or_fail).collect())
-}
-
-fn answer(case: &Case) -> String {
-    match case.kind {
-        1..=7 => actions::answer(case),
-        8..=17 => sets::answer(case),
-        18..=20 => formulas::answer(case),
-        _ => contexts::answer(case),
-    }
-}
-
-fn write_lines<T>(crafts: impl Iterator<Item = T>, line: fn(&T) -> Vec<u8>) -> io::Result<()> {
+fn write_sample<T: Lined>(file: &str, sample: impl Iterator<Item = T>) -> io::Result<()> {
     let mut out = io::BufWriter::new(io::stdout());
-    for craft in crafts {
-        out.write_all(&line(&craft))?;
+    for one in sample {
+        match file {
+            "stdin" => out.write_all(&one.line())?,
+            "stdout" => writeln!(out, "{}", one.answer())?,
+            _ => fail_usage(),
+        }
     }
     out.flush()
-}
-
-fn answer_crafts() -> io::Result<()> {
-    let mut out = io::BufWriter::new(io::stdout());
-    for craft in given(states::WIDTH, crafts::read)? {
-        writeln!(out, "{}", crafts::answer(&craft))?;
-    }
-    out.flush()
-}
-
-fn write_counts<T>(read: fn(&[u8]) -> Option<T>, counts: fn(&[T]) -> Tally) -> io::Result<()> {
-    let crafts = given(states::WIDTH, read)?;
-    write!(io::stdout(), "{}", counts(&crafts))
 }

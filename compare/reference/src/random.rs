@@ -3,11 +3,7 @@
 pub struct Random(u64);
 
 impl Random {
-    pub fn new(seed: u64) -> Random {
-        Random(seed)
-    }
-
-    /// For one of many in a run, so that the run may be cut into batches anywhere.
+    /// For one of many in a run, so that each is decided by the seed and its number alone.
     pub fn numbered(seed: u64, number: u64) -> Random {
         Random((seed << 32) + number)
     }

@@ -29,18 +29,8 @@ const ROOMS: [&str; 6] = [
     "room more than one longer",
 ];
 
-pub fn counts(displays: &[Numbers]) -> Tally {
-    let mut tally = Tally::new(events());
-    for numbers in displays {
-        if let Err(refusal) = count(&mut tally, numbers) {
-            tally.add(Event::refused(refusal));
-        }
-    }
-    tally
-}
-
 /// Every event that can be met, in the order of the report.
-fn events() -> Vec<Event> {
+pub fn events() -> Vec<Event> {
     let mut events = [1, 2, 6].map(Event::Refused).to_vec();
     events.push(Event::Display(NEGATIVE));
     events.extend(OUTGROWN.map(Event::Display));
@@ -48,7 +38,7 @@ fn events() -> Vec<Event> {
     events
 }
 
-fn count(tally: &mut Tally, numbers: &Numbers) -> Result<(), Refusal> {
+pub fn count(tally: &mut Tally, numbers: &Numbers) -> Result<(), Refusal> {
     let context = checked_context(numbers)?;
     let state = checked_state(numbers, &context)?;
     if state.durability < 0 {

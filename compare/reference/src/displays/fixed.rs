@@ -36,7 +36,7 @@ const SHOWN: [(usize, &[u32]); 8] = [
 
 pub fn displays() -> Vec<Numbers> {
     let lists = [digits(), rooms(), refused_with_no_room()];
-    let random = generate::displays(SEED, 0, RANDOM);
+    let random = generate::displays(SEED, RANDOM);
     lists.into_iter().flatten().chain(random).collect()
 }
 

@@ -5,8 +5,8 @@ use crate::random::Random;
 use crate::states::{random_one, Numbers};
 
 /// Display lines by their number in a run.
-pub fn displays(seed: u64, first: u64, count: u64) -> impl Iterator<Item = Numbers> {
-    (first..first + count).map(move |number| display(&mut Random::numbered(seed, number)))
+pub fn displays(seed: u64, count: u64) -> impl Iterator<Item = Numbers> {
+    (0..count).map(move |number| display(&mut Random::numbered(seed, number)))
 }
 
 fn display(random: &mut Random) -> Numbers {

@@ -1,7 +1,7 @@
 //! The line that asks for a Display: that of a state, whose last number is now the size of the room.
 
 use crate::states::fields::{context, state};
-use crate::states::line::{first_numbers, line, Numbers, NUMBERS};
+use crate::states::line::{line, Numbers, NUMBERS};
 
 /// The place of the room's size.
 pub const ROOM: usize = NUMBERS - 1;
@@ -10,12 +10,6 @@ const KIND: &str = "24";
 
 pub fn write(numbers: &Numbers) -> Vec<u8> {
     line(KIND, numbers, b"")
-}
-
-/// None unless the line is exactly one that `write` writes, with a room that our program has.
-pub fn read(line: &[u8]) -> Option<Numbers> {
-    let numbers: Numbers = first_numbers(line)?;
-    (numbers[ROOM] <= ROOM_MOST && write(&numbers) == line).then_some(numbers)
 }
 
 /// How many bytes the Rust would write, also of a state that is refused.

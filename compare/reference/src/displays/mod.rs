@@ -7,7 +7,7 @@ mod generate;
 mod line;
 
 pub use answer::answer;
-pub use count::counts;
+pub use count::{count, events};
 pub use fixed::displays as fixed;
 pub use generate::displays as random;
-pub use line::{read, write};
+pub use line::{with_room, write, ROOM_MOST};

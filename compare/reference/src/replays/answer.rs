@@ -7,6 +7,9 @@ use crate::states::fields::words;
 use crate::states::limits::checked_context;
 use crate::states::result;
 
+/// What the parts of an answer say.
+pub const PARTS: [&str; 4] = ["state", "moves", "result", "executed"];
+
 pub fn answer(replay: &Replay) -> String {
     line(reported(replay))
 }

@@ -12,18 +12,8 @@ use crafty::{Action, CraftContext, CraftResult};
 const LENGTHS: [(usize, usize); 7] =
     [(0, 0), (1, 1), (2, 9), (10, 39), (40, 99), (100, 199), (200, 255)];
 
-pub fn counts(replays: &[Replay]) -> Tally {
-    let mut tally = Tally::new(events());
-    for replay in replays {
-        if let Err(refusal) = count(&mut tally, replay) {
-            tally.add(Event::refused(refusal));
-        }
-    }
-    tally
-}
-
 /// Every event that can be met, in the order of the report.
-fn events() -> Vec<Event> {
+pub fn events() -> Vec<Event> {
     let mut events = vec![Event::Refused(1), Event::Refused(3)];
     for mode in Mode::BOTH {
         events.extend(craft_events(mode));
@@ -33,7 +23,7 @@ fn events() -> Vec<Event> {
     events
 }
 
-fn count(tally: &mut Tally, replay: &Replay) -> Result<(), Refusal> {
+pub fn count(tally: &mut Tally, replay: &Replay) -> Result<(), Refusal> {
     let context = checked_context(&replay.context)?;
     let actions = checked_list(replay)?;
     let report = report(&context, replay.mode, actions.clone());

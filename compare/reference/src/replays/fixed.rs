@@ -16,7 +16,7 @@ const SHORT: [Action; 3] = [BasicTouch, StandardTouch, BasicSynthesis];
 
 pub fn replays() -> Vec<Replay> {
     let lists = [bench_crafts(), limits(), unknown(), lengths(), refused_twice()];
-    let random = generate::replays(SEED, 0, RANDOM);
+    let random = generate::replays(SEED, RANDOM);
     lists.into_iter().flatten().chain(random).collect()
 }
 

@@ -9,11 +9,11 @@ use crate::states::random_context;
 use crafty::CraftContext;
 
 /// Replays by their number in a run.
-pub fn replays(seed: u64, first: u64, count: u64) -> impl Iterator<Item = Replay> {
-    (first..first + count).map(move |number| replay(&mut Random::numbered(seed, number)))
+pub fn replays(seed: u64, count: u64) -> impl Iterator<Item = Replay> {
+    (0..count).map(move |number| replay(&mut Random::numbered(seed, number)))
 }
 
-fn replay(random: &mut Random) -> Replay {
+pub fn replay(random: &mut Random) -> Replay {
     let context = context(random);
     let mode = random.any(&Mode::BOTH);
     let mut replay = Replay::new(&context, mode, &random_list::list(random, &context, mode));

@@ -1,8 +1,8 @@
 //! The line of a replay; its layout stands in docs/COMPARISON.md.
 
 use crate::case::mark;
-use crate::states::fields::{context_numbers, ContextNumbers, STEP};
-use crate::states::line::{first_numbers, line};
+use crate::states::fields::{context_numbers, ContextNumbers};
+use crate::states::line::line;
 use crate::states::mode::Mode;
 use crafty::{Action, CraftContext};
 
@@ -11,10 +11,6 @@ pub const LIST_MOST: usize = 300;
 pub const UNKNOWN_LEAST: u32 = 31;
 pub const UNKNOWN_MOST: u32 = 63;
 const KIND: &str = "23";
-const MODE: usize = STEP;
-const LENGTH: usize = STEP + 1;
-const NUMBERS: usize = STEP + 2;
-const LIST_START: usize = 3 + 11 * NUMBERS;
 
 /// Of a list that may hold unknown numbers, in a context that may be outside its limits.
 pub struct Replay {
@@ -35,24 +31,4 @@ pub fn write(replay: &Replay) -> Vec<u8> {
     numbers.extend([replay.mode as u32, replay.list.len() as u32]);
     let list: Vec<u8> = replay.list.iter().map(|number| mark(*number) as u8).collect();
     line(KIND, &numbers, &list)
-}
-
-/// None unless the line is exactly one that `write` writes.
-pub fn read(line: &[u8]) -> Option<Replay> {
-    let numbers: [u32; NUMBERS] = first_numbers(line)?;
-    let length = numbers[LENGTH] as usize;
-    if length > LIST_MOST {
-        return None;
-    }
-    let marks = line.get(LIST_START..LIST_START + length)?.iter();
-    let replay = Replay {
-        context: numbers[..STEP].try_into().ok()?,
-        mode: Mode::BOTH.get(numbers[MODE] as usize).copied()?,
-        list: marks.map(|byte| unmark(*byte)).collect::<Option<_>>()?,
-    };
-    (write(&replay) == line).then_some(replay)
-}
-
-fn unmark(byte: u8) -> Option<u32> {
-    byte.checked_sub(b'@').map(u32::from).filter(|number| *number <= UNKNOWN_MOST)
 }

@@ -8,8 +8,8 @@ mod line;
 mod random_list;
 pub mod report;
 
-pub use answer::answer;
-pub use count::counts;
+pub use answer::{answer, PARTS};
+pub use count::{count, events};
 pub use fixed::replays as fixed;
-pub use generate::replays as random;
-pub use line::{read, write, Replay};
+pub use generate::{replay as random_one, replays as random};
+pub use line::{write, Replay, LIST_MOST, UNKNOWN_MOST};

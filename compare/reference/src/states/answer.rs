@@ -31,6 +31,14 @@ pub fn answer(numbers: &Numbers) -> String {
     parts.join("; ")
 }
 
+/// What a part of the answer says.
+pub fn part(place: usize) -> String {
+    let first = ["start", "plain moves", "strict moves", "plain result", "strict result", "score"];
+    let Some(step) = place.checked_sub(first.len()) else { return first[place].to_string() };
+    let steps = STEPS as usize;
+    format!("{} step of action {}", Mode::BOTH[step / steps], step % steps)
+}
+
 fn borrowed<T>(given: &Given<T>) -> Given<&T> {
     given.as_ref().map_err(|refusal| *refusal)
 }

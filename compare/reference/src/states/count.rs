@@ -22,18 +22,8 @@ const SHARED_RULES: [Decision; 9] = [
     Decision::Innovation,
 ];
 
-pub fn counts(states: &[Numbers]) -> Tally {
-    let mut tally = Tally::new(events());
-    for numbers in states {
-        if let Err(refusal) = count(&mut tally, numbers) {
-            tally.add(Event::refused(refusal));
-        }
-    }
-    tally
-}
-
 /// Every event that can be met, in the order of the report.
-fn events() -> Vec<Event> {
+pub fn events() -> Vec<Event> {
     let mut events = vec![Event::Refused(1), Event::Refused(2)];
     for mode in Mode::BOTH {
         events.extend(craft_events(mode));
@@ -55,7 +45,7 @@ fn own_decisions(action: Action, mode: Mode) -> impl Iterator<Item = Decision> {
     can_pass.then_some(Decision::LetThrough(number)).into_iter().chain(held)
 }
 
-fn count(tally: &mut Tally, numbers: &Numbers) -> Result<(), Refusal> {
+pub fn count(tally: &mut Tally, numbers: &Numbers) -> Result<(), Refusal> {
     let context = checked_context(numbers)?;
     let state = checked_state(numbers, &context)?;
     for mode in Mode::BOTH {

@@ -56,7 +56,7 @@ const STATE_VALUES: [&[u32]; NUMBERS - 1 - STEP] = [
 
 pub fn states() -> Vec<Numbers> {
     let lists = [limits(), combos(), bench_ways(), zeros(), both_outside()];
-    let random = generate::states(SEED, 0, RANDOM);
+    let random = generate::states(SEED, RANDOM);
     lists.into_iter().flatten().chain(random).collect()
 }
 

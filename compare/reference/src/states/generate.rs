@@ -8,8 +8,8 @@ use super::random_state;
 use crate::random::Random;
 
 /// States by their number in a run.
-pub fn states(seed: u64, first: u64, count: u64) -> impl Iterator<Item = Numbers> {
-    (first..first + count).map(move |number| state(&mut Random::numbered(seed, number)))
+pub fn states(seed: u64, count: u64) -> impl Iterator<Item = Numbers> {
+    (0..count).map(move |number| state(&mut Random::numbered(seed, number)))
 }
 
 pub fn state(random: &mut Random) -> Numbers {

@@ -1,8 +1,6 @@
 //! The line of a state, and what it shares with those of a replay and of a Display; their layouts stand in docs/COMPARISON.md.
 
-use crate::case::digits;
-
-pub const WIDTH: usize = 512;
+const WIDTH: usize = 512;
 pub const NUMBERS: usize = 33;
 const KIND: &str = "22";
 
@@ -20,18 +18,4 @@ pub fn line(kind: &str, numbers: &[u32], text: &[u8]) -> Vec<u8> {
     line.resize(WIDTH - 1, b' ');
     line.push(b'\n');
     line
-}
-
-/// None unless the line is exactly one that `write` writes.
-pub fn read(line: &[u8]) -> Option<Numbers> {
-    let numbers = first_numbers(line)?;
-    (write(&numbers) == line).then_some(numbers)
-}
-
-pub fn first_numbers<const COUNT: usize>(line: &[u8]) -> Option<[u32; COUNT]> {
-    let mut numbers = [0; COUNT];
-    for (place, number) in numbers.iter_mut().enumerate() {
-        *number = digits(line.get(3 + 11 * place..13 + 11 * place)?)?;
-    }
-    Some(numbers)
 }

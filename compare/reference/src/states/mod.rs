@@ -17,8 +17,8 @@ pub mod result;
 mod rules;
 pub mod tally;
 
-pub use answer::answer;
-pub use count::counts;
+pub use answer::{answer, part};
+pub use count::{count, events};
 pub use fixed::states as fixed;
 pub use generate::{state as random_one, states as random};
-pub use line::{read, write, Numbers, WIDTH};
+pub use line::{write, Numbers};

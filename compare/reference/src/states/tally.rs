@@ -101,6 +101,12 @@ impl Tally {
 
 impl fmt::Display for Tally {
     fn fmt(&self, out: &mut fmt::Formatter) -> fmt::Result {
-        self.events.iter().try_for_each(|event| writeln!(out, "{} {event}", self.counts[event]))
+        for event in &self.events {
+            writeln!(out, "{:>10} {event}", self.counts[event])?;
+        }
+        match self.events.iter().min_by_key(|event| self.counts[event]) {
+            Some(least) => writeln!(out, "least: {} {least}", self.counts[least]),
+            None => Ok(()),
+        }
     }
 }

@@ -26,7 +26,8 @@ const DAMAGES: [Damage; 18] = [
     ("a word unknown", insert_word),
 ];
 const BYTES: &[u8] = b"\0\t\n\x0b\r +-.019AZaz\x7f\x80\xff";
-const EDGES: [u32; 16] = [
+/// At the limits of some field, and beside them.
+pub const EDGES: [u32; 16] = [
     0,
     1,
     2,

@@ -2,7 +2,7 @@
 
 use super::answer::told;
 use super::call::{Call, Function};
-use super::generate::{line, Case};
+use super::generate::{line, list_of, Case};
 use super::lists::INPUT_MOST;
 use crate::replays;
 use crate::states::bench::{bench, crafts};
@@ -188,10 +188,9 @@ fn lists() -> Vec<Vec<u8>> {
 // ---- replays by numbers
 
 fn replays() -> Vec<Call> {
-    let fixed = replays::fixed().into_iter().map(|replay| {
-        let list: Vec<u8> = replay.list.iter().map(|number| *number as u8).collect();
-        Call::replay(replay.context, replay.mode, &list)
-    });
+    let fixed = replays::fixed()
+        .into_iter()
+        .map(|replay| Call::replay(replay.context, replay.mode, &list_of(&replay)));
     fixed.chain(wide_contexts()).collect()
 }
 

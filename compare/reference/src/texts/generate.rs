@@ -30,17 +30,20 @@ impl Case {
 
 /// The calls of the replays by their number in a run.
 pub fn cases(seed: u64, count: u64) -> impl Iterator<Item = Case> {
-    let replays = (0..count).zip(replays::random(seed, 0, count));
+    let replays = (0..count).zip(replays::random(seed, count));
     replays.flat_map(move |(number, replay)| {
         of_replay(&mut Random::numbered(seed, OF_TEXT + number), &replay)
     })
 }
 
+pub fn list_of(replay: &Replay) -> Vec<u8> {
+    replay.list.iter().map(|number| *number as u8).collect()
+}
+
 fn of_replay(random: &mut Random, replay: &Replay) -> Vec<Case> {
-    let list: Vec<u8> = replay.list.iter().map(|number| *number as u8).collect();
-    let words = words(random, &list);
-    let mut text = line(&replay.context).into_bytes();
-    text.extend(words.bytes());
+    let list = list_of(replay);
+    let words = words_of(random, &list);
+    let mut text = text_of(&replay.context, &words);
     let damage = if random.one_in(3) { "whole" } else { damage(random, &mut text) };
     let calls = [
         Call::replay(replay.context, replay.mode, &list),
@@ -50,16 +53,21 @@ fn of_replay(random: &mut Random, replay: &Replay) -> Vec<Case> {
         Call::new(Function::ReplayText, &text),
         Call::new(Function::Print, &text),
     ];
-    calls.into_iter().map(|call| in_room(random, call, damage)).collect()
+    calls.into_iter().map(|call| noted(in_room(random, call), damage)).collect()
 }
 
-fn in_room(random: &mut Random, call: Call, damage: &str) -> Case {
+/// A call in a random room, and what it is told with all the room that it needs.
+pub fn in_room(random: &mut Random, call: Call) -> (Case, Result<Told, Refusal>) {
     let told = told(&call);
     let needed = told.as_ref().map_or(REFUSED_NEEDS, |told| told.value);
     let room = room(random, call.function, needed);
-    let is_text = call.function == Function::ReplayText;
-    let met = is_text.then(|| format!("{damage}: {}", ended(&told)));
-    Case { met, ..Case::new(call, &told, room) }
+    (Case::new(call, &told, room), told)
+}
+
+/// With what became of the text, if it is one.
+fn noted((case, told): (Case, Result<Told, Refusal>), damage: &str) -> Case {
+    let is_text = case.call.function == Function::ReplayText;
+    Case { met: is_text.then(|| format!("{damage}: {}", ended(&told))), ..case }
 }
 
 /// The result on the last line of a text, or its refusal.
@@ -93,8 +101,13 @@ pub fn line(context: &ContextNumbers) -> String {
     numbers.join(" ") + "\n"
 }
 
+/// The replay program's input.
+pub fn text_of(context: &ContextNumbers, words: &str) -> Vec<u8> {
+    (line(context) + words).into_bytes()
+}
+
 /// The names of a list, parted by gaps of one kind or of all; an unknown number is an unknown word.
-fn words(random: &mut Random, list: &[u8]) -> String {
+pub fn words_of(random: &mut Random, list: &[u8]) -> String {
     let gaps: &[&str] =
         random.any(&[&["\n"][..], &[" "][..], &["\n", " ", "\t", "\r\n", "  ", " \t\n\r"][..]]);
     let mut text = String::new();

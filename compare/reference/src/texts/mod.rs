@@ -3,7 +3,6 @@
 
 mod answer;
 mod call;
-mod count;
 mod damage;
 mod fixed;
 mod generate;
@@ -13,4 +12,8 @@ mod output;
 mod run;
 mod timing;
 
-pub use run::{compare, end, start, Host};
+pub use call::{Call, Function};
+pub use damage::{damage as damage_text, EDGES};
+pub use generate::{in_room, list_of, text_of, words_of, Case};
+pub use lists::INPUT_MOST;
+pub use run::compare;

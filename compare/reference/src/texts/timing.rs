@@ -2,30 +2,31 @@
 
 use super::call::{Call, Function};
 use super::fixed::longest;
-use super::run::Host;
+use crate::ask::{start, Process};
 use std::io;
 use std::time::{Duration, Instant};
 
 const ROUNDS: usize = 21;
 const ROOM: usize = 1 << 16;
 
-pub fn print(host: &mut Host) -> io::Result<()> {
+pub fn print(host: &[&str]) -> io::Result<()> {
+    let mut host = start(host)?;
     let input = longest();
     for function in [Function::ReadList, Function::ReplayText] {
         let call =
             Call::new(function, if function == Function::ReadList { &input.1 } else { &input.0 });
-        let time = median(host, &call)?;
+        let time = median(&mut host, &call)?;
         let (bytes, micros) = (call.input.len(), time.as_micros());
         println!("{} of {bytes} bytes: {micros} microseconds", function.name());
     }
-    Ok(())
+    host.end()
 }
 
-fn median(host: &mut Host, call: &Call) -> io::Result<Duration> {
+fn median(host: &mut Process, call: &Call) -> io::Result<Duration> {
     let mut times = Vec::new();
     for _ in 0..ROUNDS {
         let start = Instant::now();
-        host.call(call, ROOM)?;
+        call.ask(host, ROOM)?;
         times.push(start.elapsed());
     }
     times.sort();

@@ -4,7 +4,6 @@
 mod answer;
 mod arena;
 mod call;
-mod count;
 mod damage;
 mod fixed;
 mod floats;
@@ -14,4 +13,11 @@ mod run;
 mod sequence;
 mod sound;
 
+pub use call::{Call, Function, FUNCTIONS};
+pub use damage::{no_counts, DAMAGES};
+pub use floats::any as any_float;
+pub use generate::Case;
+pub use record::Record;
 pub use run::compare;
+pub use sequence::{any_record, made_up};
+pub use sound::{is_sound, upward};

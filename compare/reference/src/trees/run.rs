@@ -1,59 +1,51 @@
-//! Asks a host of the archive, a process of its own, and holds each answer, record and byte of each room to what it must be.
+//! The calls over trees of a host of the archive: each answer, record and byte of each room is held to what it must be.
 
 use super::answer::Answer;
-use super::count::Counts;
 use super::generate::Case;
 use super::record::{Record, WIDTH};
 use super::{fixed, generate};
-use crate::fail;
-use crate::texts::{end, start, Host};
-use std::io::{self, Read, Write};
-use std::process::{ChildStdin, ChildStdout};
-use std::sync::mpsc::sync_channel;
-use std::thread;
+use crate::ask::{ask, Question};
+use crate::counts::Counts;
+use std::io::{self, BufRead};
 
-/// So many calls are under way at a time.
-const UNDER_WAY: usize = 64;
 /// The bytes of the three numbers before the records.
 const HEAD: usize = 24;
 
 /// The fixed list and the calls of `count` random trees.
-pub fn compare(seed: u64, count: u64, command: &[&str]) -> io::Result<()> {
-    let (counts, host) = ask(seed, count, start(command)?)?;
-    println!("{counts}");
-    end(host)
+pub fn compare(seed: u64, count: u64, host: &[&str]) -> io::Result<()> {
+    let mut counts = Counts::default();
+    let mut records = 0;
+    let asked = ask(host, fixed::cases().chain(generate::cases(seed, count)), |case| {
+        count_case(&mut counts, case);
+        records += case.answer.records.len();
+    })?;
+    println!("{counts}compare: {asked} calls equal, {records} records after them, seed {seed}");
+    Ok(())
 }
 
-/// One thread works out what must be answered and asks; this one reads what is.
-fn ask(seed: u64, count: u64, host: Host) -> io::Result<(Counts, Host)> {
-    let Host { process, mut stdin, mut stdout } = host;
-    let (sender, receiver) = sync_channel::<Case>(UNDER_WAY);
-    let asking = thread::spawn(move || -> io::Result<ChildStdin> {
-        for case in fixed::cases().chain(generate::cases(seed, count)) {
-            stdin.write_all(&case.call.request())?;
-            if sender.send(case).is_err() {
-                break;
-            }
-        }
-        Ok(stdin)
-    });
-    let mut counts = Counts::default();
-    for case in receiver {
-        let said = read(&mut stdout, &case.answer)?;
-        if said != case.answer {
-            fail(difference(&case, &said));
-        }
-        counts.add(&case);
+fn count_case(counts: &mut Counts, case: &Case) {
+    counts.answered(case.call.function.name(), case.answer.number as usize);
+    if let Some(met) = &case.met {
+        counts.met(met);
     }
-    let stdin = asking.join().expect("a thread that asks")?;
-    Ok((counts, Host { process, stdin, stdout }))
+}
+
+impl Question for Case {
+    fn request(&self) -> Vec<u8> {
+        self.call.request()
+    }
+
+    fn difference(&self, answers: &mut impl BufRead) -> io::Result<Option<String>> {
+        let said = read(answers, &self.answer)?;
+        Ok((said != self.answer).then(|| shown(self, &said)))
+    }
 }
 
 /// An answer with as many records and as much room as this one.
-fn read(stdout: &mut ChildStdout, wanted: &Answer) -> io::Result<Answer> {
+fn read(answers: &mut impl BufRead, wanted: &Answer) -> io::Result<Answer> {
     let records = wanted.records.len() * WIDTH;
     let mut bytes = vec![0; HEAD + records + wanted.room.len()];
-    stdout.read_exact(&mut bytes)?;
+    answers.read_exact(&mut bytes)?;
     let number = |at: usize| u64::from_le_bytes(bytes[at..at + 8].try_into().expect("eight bytes"));
     Ok(Answer {
         number: number(0),
@@ -64,7 +56,7 @@ fn read(stdout: &mut ChildStdout, wanted: &Answer) -> io::Result<Answer> {
     })
 }
 
-fn difference(case: &Case, said: &Answer) -> String {
+fn shown(case: &Case, said: &Answer) -> String {
     let wanted = &case.answer;
     let mut others = wanted.records.iter().zip(&said.records).enumerate();
     let other = others.find(|(_, (wanted, said))| wanted != said);

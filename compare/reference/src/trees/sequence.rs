@@ -31,21 +31,9 @@ impl Sequence {
         if length == 0 || random.one_in(2) {
             sequence.ask(random, Call::new(Function::New, &sequence.records, 0));
         } else {
-            sequence.make_up(random);
+            sequence.count = made_up(random, &mut sequence.records);
         }
         sequence
-    }
-
-    fn make_up(&mut self, random: &mut Random) {
-        self.count = u64::from(random.between(1, self.records.len() as u32));
-        for number in 0..self.count {
-            let parent = if number == 0 { 0 } else { number_below(random, number) };
-            let action = if number == 0 { NO_ACTION } else { known_action(random) };
-            let visits = floats::visits(random);
-            let score_sum = floats::score_sum(random, visits);
-            let max_score = floats::max_score(random);
-            self.records[number as usize] = Record { parent, action, visits, score_sum, max_score };
-        }
     }
 
     pub fn step(&mut self, random: &mut Random) {
@@ -68,7 +56,7 @@ impl Sequence {
         self.look(random);
     }
 
-    /// The children of every node, of a large tree of some; and the solution.
+    /// The children of every node, of a large tree of some; the solution; and a new tree over some of the records.
     fn look(&mut self, random: &mut Random) {
         for node in 0..self.count.min(LOOKS_MOST) {
             let node = if self.count > LOOKS_MOST { self.node(random) } else { node };
@@ -77,6 +65,8 @@ impl Sequence {
         }
         let call = self.call(Function::Solution);
         self.cases.push(Case::new(in_room(random, call)));
+        let length = random.place(self.records.len() + 1);
+        self.cases.push(Case::new(Call::new(Function::New, &self.records[..length], self.count)));
     }
 
     fn call(&self, function: Function) -> Call {
@@ -136,6 +126,20 @@ impl Sequence {
     }
 }
 
+/// Makes the first of the records a sound tree, and answers how many are used.
+pub fn made_up(random: &mut Random, records: &mut [Record]) -> u64 {
+    let count = u64::from(random.between(1, records.len() as u32));
+    for number in 0..count {
+        let parent = if number == 0 { 0 } else { number_below(random, number) };
+        let action = if number == 0 { NO_ACTION } else { known_action(random) };
+        let visits = floats::visits(random);
+        let score_sum = floats::score_sum(random, visits);
+        let max_score = floats::max_score(random);
+        records[number as usize] = Record { parent, action, visits, score_sum, max_score };
+    }
+    count
+}
+
 /// Too short, just enough, or longer.
 fn in_room(random: &mut Random, call: Call) -> Call {
     let enough = Call { room: call.records.len(), ..call };
@@ -165,7 +169,7 @@ fn number_below(random: &mut Random, end: u64) -> u64 {
 }
 
 /// Anything, as a record holds that is not used.
-fn any_record(random: &mut Random) -> Record {
+pub fn any_record(random: &mut Random) -> Record {
     let bits = u64::from(random.bits());
     Record {
         parent: random.any(&[0, 1, bits, bits << 32, u64::MAX]),

@@ -1,0 +1,47 @@
+//! What the questions of a run met: how each entry answered, and what else is counted by a name.
+
+use std::collections::BTreeMap;
+use std::fmt;
+
+/// One more than the greatest number of a refusal.
+const NUMBERS: usize = 14;
+
+#[derive(Default)]
+pub struct Counts {
+    /// Of each entry how often it gave each refusal; at 0 how often it answered.
+    entries: BTreeMap<&'static str, [u64; NUMBERS]>,
+    others: BTreeMap<String, u64>,
+}
+
+impl Counts {
+    pub fn answered(&mut self, entry: &'static str, refusal: usize) {
+        self.entries.entry(entry).or_default()[refusal] += 1;
+    }
+
+    pub fn met(&mut self, what: &str) {
+        *self.others.entry(what.to_string()).or_default() += 1;
+    }
+
+    pub fn of(&self, entry: &'static str) -> [u64; NUMBERS] {
+        self.entries.get(entry).copied().unwrap_or_default()
+    }
+}
+
+impl fmt::Display for Counts {
+    fn fmt(&self, out: &mut fmt::Formatter) -> fmt::Result {
+        for (entry, counts) in &self.entries {
+            let asked: u64 = counts.iter().sum();
+            write!(out, "{entry}: {asked} asked, {} answered", counts[0])?;
+            let refusals = counts.iter().enumerate().skip(1).filter(|(_, count)| **count > 0);
+            for (number, count) in refusals {
+                write!(out, ", refused {number}: {count}")?;
+            }
+            writeln!(out)?;
+        }
+        self.others.iter().try_for_each(|(what, count)| writeln!(out, "{count:>10} {what}"))?;
+        match self.others.iter().min_by_key(|(_, count)| **count) {
+            Some((what, count)) => writeln!(out, "least: {count} {what}"),
+            None => Ok(()),
+        }
+    }
+}
