@@ -61,7 +61,6 @@ pub fn fresh(context: CraftContext) -> CraftState
 pub fn renewed(state: CraftState, combo: Combo, perfection: Perfection, last: Last) -> CraftState
     ensures { λ r. ⌜ r ≡ renewedOf state combo perfection last ⌝ }
 {
-    let buffs = state.buffs;
     CraftState {
         step: state.step,
         progress: state.progress,
@@ -71,7 +70,16 @@ pub fn renewed(state: CraftState, combo: Combo, perfection: Perfection, last: La
         previous_combo_action: combo,
         quick_innovation_available: state.quick_innovation_available,
         trained_perfection_active: perfection,
-        buffs,
+        buffs: Buffs {
+            inner_quiet: state.buffs.inner_quiet,
+            waste_not: state.buffs.waste_not,
+            waste_not_ii: state.buffs.waste_not_ii,
+            manipulation: state.buffs.manipulation,
+            great_strides: state.buffs.great_strides,
+            innovation: state.buffs.innovation,
+            veneration: state.buffs.veneration,
+            muscle_memory: state.buffs.muscle_memory,
+        },
         action: last,
     }
 }

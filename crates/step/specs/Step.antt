@@ -159,7 +159,22 @@ timedOf s n =
       action = s .action;
     }
 
--- 9
+-- 9: the buffs that the action sets, and the whole
+unfoldable pub buffedOf : CraftState → ℕ → CraftState
+buffedOf s n =
+    record {
+      step = s .step;
+      progress = s .progress;
+      quality = s .quality;
+      durability = s .durability;
+      cp = s .cp;
+      «previous_combo_action» = s .«previous_combo_action»;
+      «quick_innovation_available» = s .«quick_innovation_available»;
+      «trained_perfection_active» = s .«trained_perfection_active»;
+      buffs = effectOf n (s .buffs);
+      action = s .action;
+    }
+
 unfoldable pub affectedOf : CraftContext → CraftState → ℕ → CraftState
 affectedOf c s n =
     record {

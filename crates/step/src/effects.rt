@@ -2,8 +2,8 @@
 ghost use mathlib.Core.Path.{_≡_};
 ghost use Prim.Native.Nat.{_-_};
 ghost use Rattle.craft_state.specs.Inside.{Room};
-ghost use Rattle.step.specs.Parts.{tickedOf, effectOf, mendAfter, perfectedBy};
-ghost use Rattle.step.specs.Step.{timedOf, affectedOf};
+ghost use Rattle.step.specs.Parts.{mendAfter, perfectedBy};
+ghost use Rattle.step.specs.Step.{timedOf, buffedOf, affectedOf};
 use super::durability::mend;
 use craft_context::CraftContext;
 use craft_state::Buffs;
@@ -22,54 +22,51 @@ fn less(timer: u8) -> u8
     0
 }
 
-// Inner quiet is no timer.
-fn ticked(buffs: Buffs) -> Buffs
-    ensures { λ r. ⌜ r ≡ tickedOf buffs ⌝ }
-{
-    let mut next = buffs;
-    next.waste_not = less(buffs.waste_not);
-    next.waste_not_ii = less(buffs.waste_not_ii);
-    next.manipulation = less(buffs.manipulation);
-    next.great_strides = less(buffs.great_strides);
-    next.innovation = less(buffs.innovation);
-    next.veneration = less(buffs.veneration);
-    next.muscle_memory = less(buffs.muscle_memory);
-    next
-}
-
-// QuickInnovation takes no step.
+// QuickInnovation takes no step, and inner quiet is no timer.
 pub fn timed(state: CraftState, n: u8) -> CraftState
     ensures { λ r. ⌜ r ≡ timedOf state n ⌝ }
 {
     if n == action::QUICK_INNOVATION {
         return state;
     }
-    let buffs = state.buffs;
+    let waste_not = less(state.buffs.waste_not);
+    let waste_not_ii = less(state.buffs.waste_not_ii);
+    let manipulation = less(state.buffs.manipulation);
+    let great_strides = less(state.buffs.great_strides);
+    let innovation = less(state.buffs.innovation);
+    let veneration = less(state.buffs.veneration);
+    let muscle_memory = less(state.buffs.muscle_memory);
     let mut next = state;
-    next.buffs = ticked(buffs);
+    next.buffs.waste_not = waste_not;
+    next.buffs.waste_not_ii = waste_not_ii;
+    next.buffs.manipulation = manipulation;
+    next.buffs.great_strides = great_strides;
+    next.buffs.innovation = innovation;
+    next.buffs.veneration = veneration;
+    next.buffs.muscle_memory = muscle_memory;
     next
 }
 
 // What the action sets among the buffs.
-fn effect(n: u8, buffs: Buffs) -> Buffs
-    ensures { λ r. ⌜ r ≡ effectOf n buffs ⌝ }
+fn buffed(state: CraftState, n: u8) -> CraftState
+    ensures { λ r. ⌜ r ≡ buffedOf state n ⌝ }
 {
-    let mut next = buffs;
+    let mut next = state;
     match n {
         action::WASTE_NOT => {
-            next.waste_not = Buffs::WASTE_NOT_MOST;
-            next.waste_not_ii = 0;
+            next.buffs.waste_not = Buffs::WASTE_NOT_MOST;
+            next.buffs.waste_not_ii = 0;
         }
-        action::VENERATION => next.veneration = Buffs::VENERATION_MOST,
-        action::GREAT_STRIDES => next.great_strides = Buffs::GREAT_STRIDES_MOST,
-        action::INNOVATION => next.innovation = Buffs::INNOVATION_MOST,
+        action::VENERATION => next.buffs.veneration = Buffs::VENERATION_MOST,
+        action::GREAT_STRIDES => next.buffs.great_strides = Buffs::GREAT_STRIDES_MOST,
+        action::INNOVATION => next.buffs.innovation = Buffs::INNOVATION_MOST,
         action::WASTE_NOT_II => {
-            next.waste_not = 0;
-            next.waste_not_ii = Buffs::WASTE_NOT_II_MOST;
+            next.buffs.waste_not = 0;
+            next.buffs.waste_not_ii = Buffs::WASTE_NOT_II_MOST;
         }
-        action::MUSCLE_MEMORY => next.muscle_memory = Buffs::MUSCLE_MEMORY_MOST,
-        action::MANIPULATION => next.manipulation = Buffs::MANIPULATION_MOST,
-        action::QUICK_INNOVATION => next.innovation = 1,
+        action::MUSCLE_MEMORY => next.buffs.muscle_memory = Buffs::MUSCLE_MEMORY_MOST,
+        action::MANIPULATION => next.buffs.manipulation = Buffs::MANIPULATION_MOST,
+        action::QUICK_INNOVATION => next.buffs.innovation = 1,
         _ => {}
     }
     next
@@ -105,10 +102,9 @@ pub fn affected(context: CraftContext, state: CraftState, n: u8) -> CraftState
     let perfection = state.trained_perfection_active;
     let last = state.action;
     let quick = state.quick_innovation_available;
-    let buffs = state.buffs;
-    let mut next = renewed(state, combo, perfected(n, perfection), last);
+    let buffed = buffed(state, n);
+    let mut next = renewed(buffed, combo, perfected(n, perfection), last);
     next.durability = mended(n, state.durability, context.durability_max);
     next.quick_innovation_available = quick & (n != action::QUICK_INNOVATION);
-    next.buffs = effect(n, buffs);
     next
 }

@@ -10,4 +10,4 @@ use Rattle.craft_state.proofs.state.renewed.Tie as tie
 
 pub renewed-spec : {M : Type 1} → statement M
 unfolding renewedOf
-renewed-spec = tie.close (tie.spec (λ c. let h : SFits w8 (c .before .before .args .state .durability) = search needs in simp (toZ-ofZ w8 _ h)))
+renewed-spec = tie.close (tie.spec (λ c. let h : SFits w8 (c .before .args .state .durability) = search needs in simp (toZ-ofZ w8 _ h)))

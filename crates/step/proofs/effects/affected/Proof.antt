@@ -2,20 +2,21 @@
 -- Assumes nothing.
 use Rattle.craft_state.specs.Start.{renewedOf}
 use Rattle.craft_state.specs.InsideLaws.{room-read}
-use Rattle.step.specs.Step.{affectedOf}
+use Rattle.step.specs.Step.{affectedOf, buffedOf}
 use Rattle.step.proofs.effects.affected.Statement.{statement}
 use Rattle.step.proofs.effects.affected.Tie as tie
 
 pub affected-spec : {M : Type 1} → statement M
-unfolding affectedOf renewedOf
+unfolding affectedOf buffedOf renewedOf
 affected-spec =
     tie.close
     (tie.spec
     (λ c κs. tt)
     (λ c κs. tt)
-    (λ c κs. let s = c .before .before .before .before .before in let e = room-read (s .pre) in rw (e .0, e .1) (s .pre))
     (λ c κs. tt)
+    (λ c κs. let s = c .before .before .before .before .before in let e = room-read (s .pre) in rw (e .0, e .1) (s .pre))
     (λ c.
-    let k = c .before .before .before .before in
-    let e = room-read (k .before .before .before .pre) in
-    simp (k .renewed .ensures, simp (e .0, e .1) at (c .before .mended .ensures), c .effect .ensures, k .before .perfected .ensures)))
+    let k = c .before .before .before in
+    let p = k .before in
+    let e = room-read (p .before .before .pre) in
+    simp (k .renewed .ensures, simp (e .0, e .1) at (c .mended .ensures), p .before .buffed .ensures, p .perfected .ensures)))
