@@ -1,4 +1,4 @@
-# Read by `run`, `sample` and `batches.sh`: finds the Rust source and builds the side that answers from it.
+# Read by the scripts of `compare` and by `bench/run`: finds the Rust source and builds the side that answers from it.
 
 root=$(cd "$(dirname "${BASH_SOURCE[0]}")/.." && pwd)
 out=$root/target/compare
