@@ -60,7 +60,7 @@ pub fn compare(
     mut rust: impl FnMut(usize) -> Timed,
 ) -> Figure {
     let calls = calls_of_a_round(&mut rust);
-    let round = |_| {
+    let round = || {
         let (our_time, our_sum) = ours(calls);
         let (rust_time, rust_sum) = rust(calls);
         assert_eq!(our_sum, rust_sum, "the answers differ: {name}");
@@ -71,8 +71,8 @@ pub fn compare(
 }
 
 /// What each round told.
-pub fn in_rounds<T>(rounds: usize, round: impl FnMut(usize) -> T) -> Vec<T> {
-    (0..WARMING + rounds).map(round).skip(WARMING).collect()
+pub fn in_rounds<T>(rounds: usize, mut round: impl FnMut() -> T) -> Vec<T> {
+    (0..WARMING + rounds).map(|_| round()).skip(WARMING).collect()
 }
 
 pub fn each(time: Duration, calls: usize) -> f64 {

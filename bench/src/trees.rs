@@ -27,8 +27,8 @@ pub fn measure(rounds: usize) -> Vec<Figure> {
     let mut random = Random(RECORDS as u64);
     grow(&mut tree, &mut random);
     let mut nodes = records(&mut tree);
-    let back = in_rounds(rounds, |_| back_round(&mut tree, &mut nodes, &mut random));
-    let solution = in_rounds(rounds, |_| solution_round(&tree, &mut nodes));
+    let back = in_rounds(rounds, || back_round(&mut tree, &mut nodes, &mut random));
+    let solution = in_rounds(rounds, || solution_round(&tree, &mut nodes));
     check_same(&mut tree, &nodes);
     [figures("back-propagation", back), figures("solution", solution)]
         .into_iter()
