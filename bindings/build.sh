@@ -1,4 +1,8 @@
+<<<<<<< HEAD
 # Read by `bindings/test` and by compare/build.sh: builds the archive, and C programs over it that run on this machine.
+=======
+# Read by `bindings/test`, `compare/text`, `compare/trees` and `bench/run`: builds the archive, and C programs over it that run on this machine.
+>>>>>>> hB
 # The archive is for x86-64. On another machine a program is built by the kit's compiler and linker, with the headers
 # at hand, and runs under the kit's emulator, loader and C library.
 
@@ -40,6 +44,11 @@ build_program() {
 
 # set_command NAME: the words that run target/bindings/NAME, in the array `command`.
 set_command() {
-    command=("$built/$1")
+    set_command_of "$built/$1"
+}
+
+# set_command_of PROGRAM: the same of any program for x86-64.
+set_command_of() {
+    command=("$1")
     is_native || command=("$tools/bin/qemu-x86_64" "$tools/lib/ld-linux-x86-64.so.2" --library-path "$tools/lib" "${command[@]}")
 }

@@ -1,4 +1,8 @@
+<<<<<<< HEAD
 # Read by the scripts beside it: finds the Rust source, builds the side that answers from it, and has it ask ours.
+=======
+# Read by the scripts of `compare` and by `bench/run`: finds the Rust source and builds the side that answers from it.
+>>>>>>> hB
 
 root=$(cd "$(dirname "${BASH_SOURCE[0]}")/.." && pwd)
 out=$root/target/compare

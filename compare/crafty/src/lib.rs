@@ -63,10 +63,27 @@ pub mod simulator {
             context: &'a CraftContext,
             actions: Vec<Action>,
         ) -> (CraftState<'a>, Option<CraftResult>, usize) {
+            let (sim, index, result) = Self::run_strict(context, actions);
+            (sim.tree.get(index).state.clone(), result, sim.depth(index))
+        }
+
+        /// As `simulate` in strict mode, with nothing counted.
+        pub fn replay_strict(
+            context: &'a CraftContext,
+            actions: Vec<Action>,
+        ) -> (CraftState<'a>, Option<CraftResult>) {
+            let (sim, index, result) = Self::run_strict(context, actions);
+            (sim.tree.get(index).state.clone(), result)
+        }
+
+        fn run_strict(
+            context: &'a CraftContext,
+            actions: Vec<Action>,
+        ) -> (Self, usize, Option<CraftResult>) {
             let start = CraftState::new_strict(context);
             let mut sim = Self::from_state(start, SearchOptions::default());
             let (index, result) = sim.execute_actions_strict(0, actions);
-            (sim.tree.get(index).state.clone(), result, sim.depth(index))
+            (sim, index, result)
         }
 
         fn depth(&self, index: usize) -> usize {

@@ -5,12 +5,12 @@ use proc_macro::{TokenStream, TokenTree};
 #[proc_macro_derive(EnumIndexing)]
 pub fn enum_indexing(item: TokenStream) -> TokenStream {
     let mut tokens = item.into_iter().skip_while(|token| token.to_string() != "enum");
-    let (Some(_), Some(name), Some(TokenTree::Group(body))) =
-        (tokens.next(), tokens.next(), tokens.next())
-    else {
-        panic!("EnumIndexing is derived for a plain enum only");
-    };
-    implementation(&name.to_string(), &variants(body.stream()))
+    match (tokens.next(), tokens.next(), tokens.next()) {
+        (Some(_), Some(name), Some(TokenTree::Group(body))) => {
+            implementation(&name.to_string(), &variants(body.stream()))
+        }
+        _ => panic!("EnumIndexing is derived for a plain enum only"),
+    }
 }
 
 /// Each variant followed by a comma, in the order in which they are declared.

@@ -1,0 +1,135 @@
+//! Back-propagation and solution on a tree of 4,096 records, with and without the scan of the public entries.
+//!
+//! An entry refuses an unsound tree, so it scans all records first; the Rust does not. The scan alone is timed by a
+//! call whose start does not exist: refusal 8 may be told only of a sound tree, and nothing is done after it. Such a
+//! call follows each call of an entry; the median of what the entry takes longer is the time of its inner function.
+
+use crate::archive::{backpropagate, solution, Node};
+use crate::crafts::{craft, Random};
+use crate::measure::{each, in_rounds, timed, Figure, Times};
+use crafty::{Action, CraftState, Simulator};
+
+const RECORDS: usize = 4_096;
+/// A parent is one of so many records before, which makes paths of some 30.
+const NEAR: usize = 256;
+/// Calls of a round: the inner function is a small part of an entry's time, and only many calls tell it.
+const CALLS: usize = 1_024;
+/// Our solutions of a round: each looks through all records at every step, where the Rust has lists of children.
+const SOLUTIONS: usize = 16;
+
+const NO_ACTION: u8 = 31;
+const SUCCESS: u64 = 0;
+const UNKNOWN_NODE: u64 = 8;
+
+pub fn measure(rounds: usize) -> Vec<Figure> {
+    let context = craft();
+    let mut tree = Simulator::of_root(&context);
+    let mut random = Random(RECORDS as u64);
+    grow(&mut tree, &mut random);
+    let mut nodes = records(&mut tree);
+    let back = in_rounds(rounds, || back_round(&mut tree, &mut nodes, &mut random));
+    let solution = in_rounds(rounds, || solution_round(&tree, &mut nodes));
+    check_same(&mut tree, &nodes);
+    [figures("back-propagation", back), figures("solution", solution)]
+        .into_iter()
+        .flatten()
+        .collect()
+}
+
+/// As a search does: each new record tells its score to all above it.
+fn grow(tree: &mut Simulator, random: &mut Random) {
+    for node in 1..RECORDS {
+        let parent = node - 1 - random.below(node.min(NEAR));
+        let action = Action::ACTIONS[random.below(Action::ACTIONS.len())];
+        tree.insert_action(parent, action);
+        tree.backpropagate_score(node, 0, score(random));
+    }
+}
+
+/// From 0 to below 1.
+fn score(random: &mut Random) -> f32 {
+    random.below(1 << 24) as f32 / (1 << 24) as f32
+}
+
+fn records(tree: &mut Simulator) -> Vec<Node> {
+    let record = |node: &crafty::tree::Node<CraftState>| Node {
+        parent: node.parent.unwrap_or(0),
+        action: node.state.action.map_or(NO_ACTION, |action| action as u8),
+        visits: node.state.visits,
+        score_sum: node.state.score_sum,
+        max_score: node.state.max_score,
+    };
+    tree.tree_mut().nodes.iter().map(record).collect()
+}
+
+/// What a call of the entry, the scan in it and a call of the Rust take, in nanoseconds.
+struct Call {
+    entry: f64,
+    scan: f64,
+    rust: f64,
+}
+
+/// From newest records up to the root, as in a search.
+fn back_round(tree: &mut Simulator, nodes: &mut [Node], random: &mut Random) -> Vec<Call> {
+    let given: Vec<(usize, f32)> =
+        (0..CALLS).map(|_| (RECORDS - 1 - random.below(NEAR), score(random))).collect();
+    let rust = timed(given.clone(), |(start, score)| {
+        tree.backpropagate_score(start, 0, score);
+        0
+    });
+    let call = |(start, score)| Call {
+        entry: time_of(SUCCESS, || backpropagate(nodes, start, score).into()),
+        scan: scan(nodes),
+        rust: each(rust.0, CALLS),
+    };
+    given.into_iter().map(call).collect()
+}
+
+fn solution_round(tree: &Simulator, nodes: &mut [Node]) -> Vec<Call> {
+    let mut room = [0; RECORDS];
+    let rust = timed(vec![(); CALLS], |()| {
+        let (actions, node) = tree.solution_node();
+        (actions.len() + node) as u64
+    });
+    let call = |_| Call {
+        entry: time_of(rust.1 / CALLS as u64, || {
+            let solution = solution(nodes, &mut room);
+            (solution.length + solution.node) as u64
+        }),
+        scan: scan(nodes),
+        rust: each(rust.0, CALLS),
+    };
+    (0..SOLUTIONS).map(call).collect()
+}
+
+fn scan(nodes: &mut [Node]) -> f64 {
+    time_of(UNKNOWN_NODE, || backpropagate(nodes, RECORDS, 0.0).into())
+}
+
+/// What one call takes, which must answer as expected.
+fn time_of(expected: u64, mut call: impl FnMut() -> u64) -> f64 {
+    let (time, answer) = timed(vec![()], |()| call());
+    assert_eq!(answer, expected, "another answer than expected");
+    each(time, 1)
+}
+
+fn figures(name: &str, rounds: Vec<Vec<Call>>) -> [Figure; 2] {
+    let calls: Vec<Call> = rounds.into_iter().flatten().collect();
+    let entry: Vec<Times> = calls.iter().map(|call| (call.entry, call.rust)).collect();
+    let inner: Vec<Times> = calls.iter().map(|call| (call.entry - call.scan, call.rust)).collect();
+    [
+        Figure::new(format!("{name}, public entry"), &entry),
+        Figure::new(format!("{name}, without the scan"), &inner),
+    ]
+}
+
+/// Every record after all rounds, and the way that the solution takes through them.
+fn check_same(tree: &mut Simulator, nodes: &[Node]) {
+    assert!(records(tree) == nodes, "the records differ");
+    let mut room = [0; RECORDS];
+    let ours = solution(nodes, &mut room);
+    let (actions, node) = tree.solution_node();
+    let actions: Vec<u8> = actions.into_iter().map(|action| action as u8).collect();
+    assert_eq!((ours.number, ours.node), (0, node), "the solutions end elsewhere");
+    assert_eq!(room[..ours.length], actions, "the solutions differ");
+}
