@@ -1,8 +1,8 @@
--- The limits of document 01 that an action's numbers rest on.
+-- The limits that an action's numbers rest on.
 -- Assumes nothing.
 use Prim.Native.Nat.{ℕ, _-_}
 
--- ---- of a row of the table, in any edition
+-- ---- of a row of the table, in any edition: document 02's bounds
 
 abbrev pub progressMost : ℕ
 progressMost = 500
@@ -20,7 +20,7 @@ priceMost = 1000
 abbrev pub discountPrice : ℕ
 discountPrice = 18
 
--- ---- of a context and a state
+-- ---- of a context and a state: document 01's limits
 
 -- progress and quality targets, starting quality and points
 abbrev pub targetMost : ℕ

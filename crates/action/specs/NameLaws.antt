@@ -13,7 +13,7 @@ use Rattle.laws.specs.Lists.{elem}
 use Rattle.laws.specs.Same.{same, same→eq, same-refl, below-at}
 use Rattle.action.specs.Table.{actionOf}
 use Rattle.action.specs.Known.{actions}
-use Rattle.action.specs.Names.{nameOf, labelOf, quotedOf, macroOf, textOf, foundFrom, foundOf}
+use Rattle.action.specs.Names.{nameOf, labelOf, quotedOf, macroOf, textOf, foundFrom, foundOf, labelMost, textMost}
 use Rattle.action.specs.Texts.{texts, entryOf, shortest, longest, keyOf, holder, holders}
 use Rattle.action.specs.declared.texts.Text.{Text}
 use Rattle.action.specs.declared.texts.Text.the-variants as T
@@ -36,19 +36,19 @@ pub name-short : (n : ℕ) → n < actions → length (nameOf n) ≤ longest
 unfolding actionOf nameOf
 name-short n h = leb→le _ _ (below-at (λ n. leb (length (nameOf n)) longest) actions n h tt)
 
-pub label-short : (n : ℕ) → n < actions → length (labelOf n) ≤ 18
+pub label-short : (n : ℕ) → n < actions → length (labelOf n) ≤ labelMost
 unfolding actionOf labelOf
-label-short n h = leb→le _ _ (below-at (λ n. leb (length (labelOf n)) 18) actions n h tt)
+label-short n h = leb→le _ _ (below-at (λ n. leb (length (labelOf n)) labelMost) actions n h tt)
 
 pub macro-length : (n : ℕ) → length (macroOf n) ≡ length (quotedOf (labelOf n)) + 13
 unfolding macroOf
 macro-length n = simp length-append (omega arith)
 
-macro-short : (n : ℕ) → n < actions → length (macroOf n) ≤ 33
+macro-short : (n : ℕ) → n < actions → length (macroOf n) ≤ textMost
 unfolding actionOf labelOf quotedOf elem macroOf
-macro-short n h = leb→le _ _ (below-at (λ n. leb (length (macroOf n)) 33) actions n h tt)
+macro-short n h = leb→le _ _ (below-at (λ n. leb (length (macroOf n)) textMost) actions n h tt)
 
-pub text-short : (which : Text) (n : ℕ) → n < actions → length (textOf which n) ≤ 33
+pub text-short : (which : Text) (n : ℕ) → n < actions → length (textOf which n) ≤ textMost
 unfolding textOf
 text-short T.Name n h = omega (arith, name-short n h)
 text-short T.Label n h = omega (arith, label-short n h)

@@ -20,6 +20,7 @@ pub use price::charged;
 pub use table::Amount;
 pub use table::Attributes;
 pub use table::attributes_of;
+pub use texts::TEXT_MOST;
 pub use texts::Text;
 pub use texts::put_text;
 pub use waits::wait;

@@ -11,6 +11,8 @@ use super::names::put_name;
 use super::table::attributes_of;
 use super::waits::wait;
 
+const LABEL_MOST: usize = 18;
+
 // The text contains a space.
 fn spaced(text: &[u8]) -> bool
     ensures { λ r. ⌜ r ≡ elem (now (text .entry)) 32 ⌝ }
@@ -42,7 +44,7 @@ fn put_quoted_label(n: u8, out: &mut [u8], at: usize) -> usize
     requires { ⌜ (n < actions) × (at + length (quotedOf (labelOf n)) ≤ length (now out)) ⌝ }
     ensures { λ r. ⌜ Put (now (out .entry)) at (quotedOf (labelOf n)) r (now (out .exit)) ⌝ }
 {
-    let mut label = [0u8; 18];
+    let mut label = [0u8; LABEL_MOST];
     let k = put_label(n, &mut label, 0);
     put_quoted(&label[..k], out, at)
 }
@@ -65,6 +67,9 @@ fn put_macro_text(n: u8, out: &mut [u8], at: usize) -> usize
     let end = put_quoted_label(n, out, label);
     put_wait(n, out, end)
 }
+
+// Of the three: in bytes, no text is longer.
+pub const TEXT_MOST: usize = 33;
 
 pub enum Text {
     Name,

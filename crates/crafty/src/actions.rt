@@ -6,6 +6,7 @@ use action::Amount;
 use action::Attributes;
 use action::Combo;
 use action::Found;
+use action::TEXT_MOST;
 use action::Text;
 use refusal::Checked;
 use refusal::Refusal;
@@ -75,7 +76,7 @@ fn text_of(which: Text, n: u8, out: &mut [u8]) -> Written
     if let Checked::Refused(x) = known {
         return Written::Refused(x);
     }
-    let mut room = [0u8; 33];
+    let mut room = [0u8; TEXT_MOST];
     let k = action::put_text(which, n, &mut room, 0);
     write(&room[..k], out)
 }

@@ -12,7 +12,12 @@ use context_line::Read;
 use craft_context::CraftContext;
 use refusal::Checked;
 use refusal::Refusal;
+use refusal::SIZE_MOST;
 use rotation::Counted;
+use transcript::TRANSCRIPT_MOST;
+
+// The word, ten digits at most, and a newline.
+const REFUSED_MOST: usize = 19;
 
 // A list of words, before which `base` bytes of the input stand, replayed in a context.
 fn render_words(context: CraftContext, words: &[u8], base: usize, room: &mut [u8]) -> Written
@@ -23,7 +28,7 @@ fn render_words(context: CraftContext, words: &[u8], base: usize, room: &mut [u8
     match counted {
         Counted::Unknown(offset) => Written::Refused(Refusal::UnknownWord(base + offset)),
         Counted::Words(_) => {
-            let mut list = [0u8; 65536];
+            let mut list = [0u8; SIZE_MOST];
             let k = rotation::put_words(words, &mut list);
             Written::Length(transcript::put_transcript(context, &list[..k], room))
         }
@@ -54,7 +59,7 @@ fn render(input: &[u8], room: &mut [u8]) -> Written
 pub fn replay_text(input: &[u8], out: &mut [u8]) -> Written
     ensures { λ r. ⌜ ReplaysText (now (input .entry)) (now (out .entry)) r (now (out .exit)) ⌝ }
 {
-    let mut room = [0u8; 32768];
+    let mut room = [0u8; TRANSCRIPT_MOST];
     let rendered = render(input, &mut room);
     match rendered {
         Written::Refused(x) => Written::Refused(x),
@@ -66,7 +71,7 @@ fn write_refused(x: Refusal, out: &mut [u8]) -> Written
     ensures { λ r. ⌜ Fits (refusedTextOf x) (now (out .entry)) r (now (out .exit)) ⌝ }
 {
     let report = x.reported();
-    let mut room = [0u8; 19];
+    let mut room = [0u8; REFUSED_MOST];
     let number = text::put(&mut room, 0, b"refused ");
     let end = text::put_number(&mut room, number, report.0 as u32, 0);
     let k = text::put_byte(&mut room, end, b'\n');
@@ -77,7 +82,7 @@ fn write_refused(x: Refusal, out: &mut [u8]) -> Written
 pub fn replay_output(input: &[u8], out: &mut [u8]) -> Written
     ensures { λ r. ⌜ Prints (now (input .entry)) (now (out .entry)) r (now (out .exit)) ⌝ }
 {
-    let mut room = [0u8; 32768];
+    let mut room = [0u8; TRANSCRIPT_MOST];
     let rendered = render(input, &mut room);
     match rendered {
         Written::Refused(x) => write_refused(x, out),

@@ -22,8 +22,8 @@ use Rattle.tree.specs.declared.paths.Offspring.the-variants as L
 use Rattle.tree.specs.declared.paths.Solved.{Solved}
 use Rattle.tree.specs.declared.paths.Solved.the-variants as S
 use Rattle.tree.specs.Tree.{plantedOf, insertedOf, childrenOf, backOf, solutionOf, endOf}
-use Rattle.tree.specs.Refusals.{newTests, insertTests, childrenTests, backTests, solutionTests}
-use Rattle.tree.specs.Grow.{newCount, Changes}
+use Rattle.tree.specs.Refusals.{newCount, newTests, insertTests, childrenTests, backTests, solutionTests}
+use Rattle.tree.specs.Grow.{Changes}
 use Rattle.crafty_c.specs.declared.answer.CraftyAnswer.{CraftyAnswer}
 use Rattle.crafty_c.specs.declared.trees.CraftySolution.{CraftySolution}
 use Rattle.crafty_c.specs.Answer.{doneOf, refusedOf, reportIn, report-in, answered}

@@ -28,7 +28,8 @@ small-more (fin s m e) b c h p = le-trans p (mul-le-mul-right (down e) h)
 
 -- ---- rounding
 
-or-le : (x y : ℕ) (t : Bool) → T (ltb x y || (eqb x y && t)) → x ≤ y
+-- two magnitudes, as `le` compares them
+pub or-le : (x y : ℕ) (t : Bool) → T (ltb x y || (eqb x y && t)) → x ≤ y
 or-le x y t h = go (ltb x y) (eqb x y) (ltb→lt x y) (eqb→eq x y) h
   where
     go : (a c : Bool) → (T a → x < y) → (T c → x ≡ y) → T (a || (c && t)) → x ≤ y

@@ -138,6 +138,22 @@ module _ {A : Type 0} {kind : Kind A} {answer : A} {out written after : List ℕ
   pub answered-room : {r : A} → kind .told r ≡ success → r ≡ answer → after ≡ written → Writes kind [] answer out written r after
   answered-room a e u = record { says = answered a e; room = u ∙ judged-all (λ y. out) written }
 
+-- ---- a test of which the code knows how it came out
+
+module _ {A : Type 0} {kind : Kind A} {answer : A} {t : Test} {rest : List Test} where
+  pub fails : t .passed ≡ false → Says kind (t ∷ rest) answer (kind .refused (t .otherwise))
+  fails e = stopped {checked = Refused (t .otherwise)} (rw e refl) refl
+
+  pub holds : {r : A} → t .passed ≡ true → Says kind rest answer r → Says kind (t ∷ rest) answer r
+  holds e s = onward {checked = Passed} (rw e refl) refl s
+
+  module _ {out written : List ℕ} where
+    pub fails-room : t .passed ≡ false → Writes kind (t ∷ rest) answer out written (kind .refused (t .otherwise)) out
+    fails-room e = stopped-room {checked = Refused (t .otherwise)} (rw e refl) refl refl
+
+    pub holds-room : {r : A} {after : List ℕ} → t .passed ≡ true → Writes kind rest answer out written r after → Writes kind (t ∷ rest) answer out written r after
+    holds-room e w = onward-room {checked = Passed} (rw e refl) refl w
+
 -- ---- THE law of one answer: what two runs of an entry answer, and what they leave in a lent room, is the same
 
 module _ {A : Type 0} {kind : Kind A} {tests : List Test} {answer r s : A} where

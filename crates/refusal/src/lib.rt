@@ -23,7 +23,7 @@ pub enum Refusal {
     BadScore,
     VisitsFull,
     MalformedLine,
-    // A program's input, or a list to write as text or to time, above 65,536 bytes.
+    // A program's input, or a list to write as text or to time, is above `SIZE_MOST`.
     TooLong,
 }
 
@@ -58,8 +58,6 @@ impl Refusal {
     }
 }
 
-const SIZE_MOST: usize = 65536;
-
 // What one test answers.
 pub enum Checked {
     Passed,
@@ -76,7 +74,10 @@ pub fn check_room(room: usize, needed: usize) -> Checked
     Checked::Refused(Refusal::NoRoom(needed))
 }
 
-// Refusal 13: a program's input, or a list to write as text or to time, that is longer than they may be.
+// In bytes, of a program's input and of a list to write as text or to time.
+pub const SIZE_MOST: usize = 65536;
+
+// Refusal 13: one of these is longer than it may be.
 pub fn check_size(bytes: usize) -> Checked
     ensures { λ r. ⌜ r ≡ checkedOf (sizeTest bytes) ⌝ }
 {

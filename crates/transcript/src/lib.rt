@@ -3,4 +3,5 @@ mod last;
 mod rows;
 mod whole;
 
+pub use whole::TRANSCRIPT_MOST;
 pub use whole::put_transcript;

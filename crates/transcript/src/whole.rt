@@ -12,6 +12,9 @@ use super::rows::put_rows;
 use craft_context::CraftContext;
 use moves::Mode;
 
+// In bytes: a row at the start and after each of 255 actions, and the last line, fit in these.
+pub const TRANSCRIPT_MOST: usize = 32768;
+
 // The list is replayed, and then its executed part once more, a row to each state.
 pub fn put_transcript(context: CraftContext, list: &[u8], out: &mut [u8]) -> usize
     requires { ⌜ ContextIn context × (length (now list) ≤ knownFront (now list)) × (length (now list) ≤ sizeMost) × (transcriptMost ≤ length (now out)) ⌝ }

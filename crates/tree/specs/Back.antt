@@ -7,7 +7,7 @@ use Prim.Native.Nat.{ℕ, _+_, _<_}
 use lib.Dec.{eqb}
 use lib.Ieee.{Float}
 use lib.ListN.{length}
-use Rattle.refusal.specs.declared.Refusal.the-variants.{UnsoundTree, NotAbove, VisitsFull}
+use Rattle.refusal.specs.declared.Refusal.the-variants.{NotAbove, VisitsFull}
 use Rattle.refusal.specs.declared.Checked.{Checked}
 use Rattle.refusal.specs.declared.Checked.the-variants as C
 use Rattle.refusal.specs.declared.Report.{Report}
@@ -21,7 +21,7 @@ use Rattle.tree.specs.Node.{isFull, scoreTest}
 use Rattle.tree.specs.Tree.{isAbove, pathOf, anyFull, backOf}
 use Rattle.tree.specs.TreeLaws.{Falls}
 use Rattle.tree.specs.Grow.{Changes}
-use Rattle.tree.specs.Refusals.{nodeTest, backTests}
+use Rattle.tree.specs.Refusals.{scannedTest, nodeTest, backTests}
 
 -- ---- the entry
 
@@ -61,7 +61,7 @@ pub record Surveys (nodes : List Node) (start target : ℕ) (survey : Survey) : 
 -- ---- the tests in two parts: by what a scan found, and by what a survey found
 
 abbrev pub endTests : Bool → ℕ → ℕ → ℕ → List Test
-endTests sound count start target = record { passed = sound; otherwise = UnsoundTree } ∷ nodeTest count start ∷ nodeTest count target ∷ []
+endTests sound count start target = scannedTest sound ∷ nodeTest count start ∷ nodeTest count target ∷ []
 
 abbrev pub wayTests : Survey → Float → List Test
 wayTests survey score = record { passed = survey .above; otherwise = NotAbove } ∷ scoreTest score ∷ record { passed = not (survey .full); otherwise = VisitsFull } ∷ []

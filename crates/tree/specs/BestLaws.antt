@@ -14,12 +14,13 @@ use lib.Ieee.Fits.{down-pos}
 use lib.Ieee.Positive.{through}
 use borrow.Author.Tests.{leb-true, leb-false, eqb-false, ne-eqb, not-true}
 use Rattle.laws.specs.Tests.{true-false, both, neither}
+use Rattle.laws.specs.Small.{or-le}
 use Rattle.tree.specs.declared.node.Node.{Node}
 use Rattle.tree.specs.declared.best.Best.{Best}
 use Rattle.tree.specs.Node.{plusZero, one}
 use Rattle.tree.specs.Sound.{isMaximum}
 use Rattle.tree.specs.Best.{isChild, isBetter, pickOf}
-use Rattle.tree.specs.FloatLaws.{under, at-most}
+use Rattle.tree.specs.FloatLaws.{at-most}
 use Rattle.tree.specs.NodeLaws.{holds}
 use Rattle.tree.specs.Tree.{nodeAt, bestTo}
 use Rattle.tree.specs.TreeLaws.{last-or-below}
@@ -44,7 +45,7 @@ ordinary (fin false m e) h = tt
 le-trans : (x y z : Float) → Ordinary x → Ordinary y → Ordinary z → T (le x y) → T (le y z) → T (le x z)
 unfolding le lt eq
 le-trans (fin false m e) (fin false n d) (fin false p c) a b o h i =
-    at-most _ _ (through (m * up e) (n * up d) (p * up c) (down e) (down d) (down c) (down-pos d) (under _ _ _ h) (under _ _ _ i))
+    at-most _ _ (through (m * up e) (n * up d) (p * up c) (down e) (down d) (down c) (down-pos d) (or-le _ _ _ h) (or-le _ _ _ i))
 
 le-self : (x : Float) → Ordinary x → T (le x x)
 unfolding le lt eq

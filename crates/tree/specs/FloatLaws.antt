@@ -15,18 +15,11 @@ use lib.Ieee.Fits.{down-pos, and-i, eq→eqb}
 use lib.Ieee.Scale.{round-same}
 use borrow.Author.Tests.{ltb-true, ltb-false, eqb-true, eqb-false, lt-ltb, le-ltb, eq-eqb, ne-eqb}
 use Rattle.laws.specs.Tests.{and-left, and-right}
-use Rattle.laws.specs.Small.{Small}
+use Rattle.laws.specs.Small.{Small, or-le}
 use Rattle.tree.specs.Node.{plusZero, one, visitsMost, countMost, float}
 use Rattle.tree.specs.Sound.{within, minus}
 
 -- ---- comparisons of magnitudes, as `le` computes them
-
-pub under : (a b : ℕ) (t : Bool) → T (ltb a b || (eqb a b && t)) → a ≤ b
-under a b t h = go (ltb a b) refl h
-  where
-    go : (l : Bool) → ltb a b ≡ l → T (l || (eqb a b && t)) → a ≤ b
-    go true e h = le-of-lt (ltb-true a b e)
-    go false e h = le-of-eq (eqb→eq a b (and-left (eqb a b) t h))
 
 level-of : (a b : ℕ) (t : Bool) → T (eqb a b && t) → a ≡ b
 level-of a b t h = eqb→eq a b (and-left (eqb a b) t h)
@@ -47,7 +40,7 @@ flipped a b = go (eqb b a) refl
     go false e = ne-eqb a b (λ q. eqb-false b a e (sym q))
 
 over : (a b : ℕ) (t : Bool) → T (ltb a b || (eqb b a && t)) → a ≤ b
-over a b t h = under a b t (rw (flipped b a) at h)
+over a b t h = or-le a b t (rw (flipped b a) at h)
 
 at-least : (a b : ℕ) → a ≤ b → T (ltb a b || (eqb b a && true))
 at-least a b h = rw (flipped b a) (at-most a b h)
@@ -82,7 +75,7 @@ within-small nan (fin t n d) k is h = absurd h
 within-small (inf true) (fin t n d) k is h = absurd h
 within-small (inf false) (fin t n d) k is h = absurd h
 within-small (fin false m e) (fin false n d) k is h =
-    lowered (m * up e) (n * up d) k (down e) (down d) (down-pos d) is (under _ _ _ (and-right (le (fin true n d) (fin false m e)) _ h))
+    lowered (m * up e) (n * up d) k (down e) (down d) (down-pos d) is (or-le _ _ _ (and-right (le (fin true n d) (fin false m e)) _ h))
 within-small (fin false m e) (fin true n d) k is h =
     lowered (m * up e) (n * up d) k (down e) (down d) (down-pos d) is (le-of-eq (level-of _ _ _ (and-right (le (fin false n d) (fin false m e)) _ h)))
 within-small (fin true m e) (fin false n d) k is h =
@@ -115,7 +108,7 @@ zero-small nan (fin false n d) k is p h = absurd p
 zero-small (inf true) (fin false n d) k is p h = absurd p
 zero-small (inf false) (fin false n d) k is p h = absurd h
 zero-small (fin true m e) (fin false n d) k is p h = le-trans (le-of-eq (sym (mul-one (m * up e)) ∙ sym (level-of _ _ _ p) ∙ zero-mul (down e))) zero-le
-zero-small (fin false m e) (fin false n d) k is p h = lowered (m * up e) (n * up d) k (down e) (down d) (down-pos d) (is .1) (under _ _ _ h)
+zero-small (fin false m e) (fin false n d) k is p h = lowered (m * up e) (n * up d) k (down e) (down d) (down-pos d) (is .1) (or-le _ _ _ h)
 
 -- what a cast that drops the fraction asks
 pub zero-above : (x : Float) → T (le plusZero x) → T (lt (fin true 1 (pos 0)) x)

@@ -5,7 +5,6 @@ use mathlib.Core.Bool.{Bool, true, false}
 use mathlib.Core.List.{List, [], _∷_}
 use Prim.Native.Nat.{ℕ, _+_}
 use Rattle.refusal.specs.declared.Report.{Report}
-use Rattle.refusal.specs.declared.Refusal.the-variants.{UnsoundTree}
 use Rattle.refusal.specs.Report.{reportOf, success}
 use Rattle.refusal.specs.Judge.{Test, judged, roomTest, Kind, Says}
 use Rattle.action.specs.Known.{actionTest}
@@ -17,7 +16,7 @@ use Rattle.tree.specs.declared.grow.Inserted.the-variants as I
 use Rattle.tree.specs.declared.grow.Recorded.{Recorded}
 use Rattle.tree.specs.declared.grow.Recorded.the-variants as R
 use Rattle.tree.specs.Tree.{nodeAt, plantedOf, insertedOf}
-use Rattle.tree.specs.Refusals.{nodeTest, newTests, recordTests, insertTests}
+use Rattle.tree.specs.Refusals.{scannedTest, nodeTest, newCount, newTests, recordTests, insertTests}
 
 -- ---- document 01's number and values for each case of the answers
 
@@ -51,14 +50,6 @@ isPlanted (P.Refused x) = false
 abbrev pub isInserted : Inserted → Bool
 isInserted (I.At number count) = true
 isInserted (I.Refused x) = false
-
--- a new tree has one record
-abbrev pub newCount : ℕ
-newCount = 1
-
--- refusal 7, by what the scan found
-abbrev pub scannedTest : Bool → Test
-scannedTest sound = record { passed = sound; otherwise = UnsoundTree }
 
 abbrev pub PlantAnswer : ℕ → Planted → Type 0
 PlantAnswer records r = Says planted (roomTest records newCount ∷ []) (P.Count newCount) r

@@ -9,26 +9,17 @@ use lib.ListN.{length}
 use borrow.Author.Tests.{leb-true}
 use Rattle.refusal.specs.declared.Refusal.{Refusal}
 use Rattle.refusal.specs.declared.Checked.the-variants.{Passed, Refused}
-use Rattle.refusal.specs.Judge.{Test, judged, checksOf, roomTest, Kind, Says}
-use Rattle.refusal.specs.JudgeLaws.{shown, stopped, onward, judged-passed, one-answer}
+use Rattle.refusal.specs.Judge.{Test, judged, checksOf, roomTest, Kind}
+use Rattle.refusal.specs.JudgeLaws.{shown, judged-passed, one-answer}
 use Rattle.laws.specs.Tests.{true-false}
 use Rattle.action.specs.Known.{actionTest}
 use Rattle.tree.specs.declared.node.Node.{Node}
 use Rattle.tree.specs.declared.grow.Planted.{Planted}
 use Rattle.tree.specs.declared.grow.Inserted.{Inserted}
 use Rattle.tree.specs.Tree.{isSound, plantedOf, insertedOf}
-use Rattle.tree.specs.Refusals.{treeTest, nodeTest, newTests, insertTests}
+use Rattle.tree.specs.Refusals.{treeTest, nodeTest, newCount, newTests, insertTests}
 use Rattle.tree.specs.Kept.{new-kept, insert-kept}
-use Rattle.tree.specs.Grow.{isPlanted, isInserted, newCount, PlantAnswer, InsertAnswer, Changes, Plants, Inserts}
-
--- ---- a test of which the code knows how it came out
-
-module _ {A : Type 0} {kind : Kind A} {answer : A} {t : Test} {rest : List Test} where
-  pub fails : t .passed ≡ false → Says kind (t ∷ rest) answer (kind .refused (t .otherwise))
-  fails e = stopped {checked = Refused (t .otherwise)} (rw e refl) refl
-
-  pub holds : {r : A} → t .passed ≡ true → Says kind rest answer r → Says kind (t ∷ rest) answer r
-  holds e s = onward {checked = Passed} (rw e refl) refl s
+use Rattle.tree.specs.Grow.{isPlanted, isInserted, PlantAnswer, InsertAnswer, Changes, Plants, Inserts}
 
 -- ---- the records, from the answer
 

@@ -19,10 +19,10 @@ use Rattle.tree.specs.Tree.{nodeAt, isSound, plantedOf, insertedOf, isAb
 use Rattle.tree.specs.TreeLaws.{SoundTree, tree-of, of-tree, planted-sound, inserted-sound}
 use Rattle.tree.specs.PathLaws.{path-reaches}
 use Rattle.tree.specs.BackLaws.{back-on, back-off, back-differs, back-sound}
-use Rattle.tree.specs.Refusals.{treeTest, nodeTest, aboveTest, visitsTest, newTests, insertTests, backTests}
+use Rattle.tree.specs.Refusals.{treeTest, nodeTest, aboveTest, visitsTest, newCount, newTests, insertTests, backTests}
 
-pub new-kept : (nodes : List Node) → Passed ≡ checksOf (newTests nodes) → isSound (plantedOf nodes) 1 ≡ true
-new-kept nodes e = of-tree (planted-sound nodes (leb-true 1 (length nodes) (shown (roomTest (length nodes) 1) [] e refl .0)))
+pub new-kept : (nodes : List Node) → Passed ≡ checksOf (newTests nodes) → isSound (plantedOf nodes) newCount ≡ true
+new-kept nodes e = of-tree (planted-sound nodes (leb-true newCount (length nodes) (shown (roomTest (length nodes) newCount) [] e refl .0)))
 
 pub insert-kept : (nodes : List Node) (count parent action : ℕ) → Passed ≡ checksOf (insertTests nodes count parent action) → isSound (insertedOf nodes count parent action) (count + 1) ≡ true
 insert-kept nodes count parent action e =

@@ -1,6 +1,6 @@
 -- The tests of the tree's entries, in the order of document 01's refusals.
 -- Assumes nothing.
-use mathlib.Core.Bool.{not}
+use mathlib.Core.Bool.{Bool, not}
 use mathlib.Core.List.{List, [], _∷_}
 use Prim.Native.Nat.{ℕ, _+_}
 use lib.Dec.{ltb}
@@ -15,8 +15,12 @@ use Rattle.tree.specs.Tree.{isSound, childrenOf, isAbove, pathOf, anyFul
 
 -- ---- refusals 7, 8, 9 and 11
 
+-- 7, by what a scan found
+abbrev pub scannedTest : Bool → Test
+scannedTest sound = record { passed = sound; otherwise = UnsoundTree }
+
 abbrev pub treeTest : List Node → ℕ → Test
-treeTest nodes count = record { passed = isSound nodes count; otherwise = UnsoundTree }
+treeTest nodes count = scannedTest (isSound nodes count)
 
 abbrev pub nodeTest : ℕ → ℕ → Test
 nodeTest count k = record { passed = ltb k count; otherwise = UnknownNode }
@@ -29,8 +33,12 @@ visitsTest nodes start target = record { passed = not (anyFull nodes (pathOf nod
 
 -- ---- the entries
 
+-- a new tree has one record
+abbrev pub newCount : ℕ
+newCount = 1
+
 abbrev pub newTests : List Node → List Test
-newTests nodes = roomTest (length nodes) 1 ∷ []
+newTests nodes = roomTest (length nodes) newCount ∷ []
 
 abbrev pub recordTests : List Node → ℕ → ℕ → List Test
 recordTests nodes count k = treeTest nodes count ∷ nodeTest count k ∷ []

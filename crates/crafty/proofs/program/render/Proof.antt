@@ -7,7 +7,7 @@ use native.Mathlib.Omega.{arith}
 use lib.ListN.{length, take, length-drop}
 use lib.Seq.{length-take-le}
 use borrow.Author.Needs.{needs}
-use Rattle.refusal.specs.Judge.{Says}
+use Rattle.refusal.specs.Judge.{sizeMost, Says}
 use Rattle.refusal.specs.JudgeLaws.{size-shown, stopped-room, onward-room, stopped-room-by, onward-room-by}
 use Rattle.rotation.specs.Words.{wordsTest}
 use Rattle.context_line.specs.Shape.{lineEnd, numbersOf}
@@ -35,7 +35,7 @@ line-of c = take (c .line-end .result) (start-of c .args .input .now)
 abbrev Reading : tie.After-line-end → Read → Type 0
 Reading c r = Says read (lineTests (line-of c)) (R.Context (contextOf (numbersOf (line-of c)))) r
 
-sized : (c : tie.After-line-end) → length (start-of c .args .input .now) ≤ 65536
+sized : (c : tie.After-line-end) → length (start-of c .args .input .now) ≤ sizeMost
 sized c = size-shown (c .before .before .before .check-size .ensures) (c .before .enum-told .given .1)
 
 returns : tie.Need-returns

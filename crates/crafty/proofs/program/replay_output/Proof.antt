@@ -9,6 +9,7 @@ use borrow.Author.Needs.{needs}
 use Rattle.refusal.specs.declared.Checked.the-variants.{Passed}
 use Rattle.refusal.specs.Judge.{checksOf}
 use Rattle.text.specs.OverLaws.{Rendered}
+use Rattle.transcript.specs.Transcript.{transcriptMost}
 use Rattle.crafty.specs.Room.{fits-as}
 use Rattle.crafty.specs.Program.{inputTests, replayTextOf}
 use Rattle.crafty.specs.ProgramLaws.{input-accepted, input-refused, prints-text, prints-refused}
@@ -23,14 +24,14 @@ input-of c = start-of (c .before .before .before) .args .input .now
 
 -- every test passed, and the text stands in the room
 text : (c : tie.After-rendered2) → (Passed ≡ checksOf (inputTests (input-of c))) × Rendered (replayTextOf (input-of c)) (c .rendered2 .given .0 .0) (c .before .before .before .render .last .1 .0)
-text c = let run = c .before .before .before in input-accepted (input-of c) (replicate 32768 0) (run .render .ensures) (omega arith) (c .rendered2 .given .1)
+text c = let run = c .before .before .before in input-accepted (input-of c) (replicate transcriptMost 0) (run .render .ensures) (omega arith) (c .rendered2 .given .1)
 
 returns : tie.Need-returns
 returns c =
     let written = c .before .before in
     let found = written .before .before .before in
     let run = found .before .before .before in
-    fits-as (prints-refused _ (input-refused (start-of run .args .input .now) (replicate 32768 0) (run .render .ensures) (found .rendered .given .1))) (written .write-refused .ensures)
+    fits-as (prints-refused _ (input-refused (start-of run .args .input .now) (replicate transcriptMost 0) (run .render .ensures) (found .rendered .given .1))) (written .write-refused .ensures)
 
 returns-2 : tie.Need-returns-2
 returns-2 c =

@@ -10,6 +10,7 @@ use Rattle.refusal.specs.declared.Checked.the-variants.{Passed}
 use Rattle.refusal.specs.Judge.{Test, checksOf, roomTest}
 use Rattle.refusal.specs.JudgeLaws.{stopped-room-by, onward-room-by}
 use Rattle.text.specs.OverLaws.{Rendered}
+use Rattle.transcript.specs.Transcript.{transcriptMost}
 use Rattle.crafty.specs.Room.{fits-as}
 use Rattle.crafty.specs.Program.{inputTests, replayTextOf}
 use Rattle.crafty.specs.ProgramLaws.{input-accepted, input-refused}
@@ -24,7 +25,7 @@ input-of c = start-of (c .before .before .before) .args .input .now
 
 -- every test passed, and the text stands in the room
 text : (c : tie.After-rendered2) → (Passed ≡ checksOf (inputTests (input-of c))) × Rendered (replayTextOf (input-of c)) (c .rendered2 .given .0 .0) (c .before .before .before .render .last .1 .0)
-text c = let run = c .before .before .before in input-accepted (input-of c) (replicate 32768 0) (run .render .ensures) (omega arith) (c .rendered2 .given .1)
+text c = let run = c .before .before .before in input-accepted (input-of c) (replicate transcriptMost 0) (run .render .ensures) (omega arith) (c .rendered2 .given .1)
 
 -- refusal 6 last
 abbrev room-last : tie.After-render → List Test
@@ -35,7 +36,7 @@ returns c =
     let found = c .before in
     let run = found .before .before .before in
     let input = start-of run .args .input .now in
-    let stop = input-refused input (replicate 32768 0) (run .render .ensures) (found .rendered .given .1) in
+    let stop = input-refused input (replicate transcriptMost 0) (run .render .ensures) (found .rendered .given .1) in
     stopped-room-by (inputTests input) (room-last run) stop refl refl
 
 returns-2 : tie.Need-returns-2
