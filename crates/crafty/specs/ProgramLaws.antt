@@ -5,15 +5,15 @@ use mathlib.Core.List.{List, [], _∷_}
 use Prim.Native.Nat.{ℕ, _+_, _-_, _≤_, _<_}
 use native.Mathlib.Nat.{le-trans}
 use native.Mathlib.Omega.{arith}
-use borrow.Author.Tests.{le-ltb, lt-ltb}
+use borrow.Author.Tests.{le-leb, le-ltb, lt-ltb}
 use lib.ListN.{length, take, drop, length-drop, length-append}
 use lib.Seq.{take-all}
 use Rattle.refusal.specs.declared.Refusal.{Refusal}
 use Rattle.refusal.specs.declared.Checked.{Checked}
 use Rattle.refusal.specs.declared.Checked.the-variants as C
 use Rattle.refusal.specs.declared.Refusal.the-variants.{MalformedLine}
-use Rattle.refusal.specs.Judge.{Test, checkedOf, checksOf, Says, Writes, sizeTest}
-use Rattle.refusal.specs.JudgeLaws.{judged-passed, judged-refused, shown, shown-by}
+use Rattle.refusal.specs.Judge.{Test, checkedOf, checksOf, Says, Writes, sizeTest, roomTest}
+use Rattle.refusal.specs.JudgeLaws.{judged-passed, judged-refused, shown, shown-by, stopped-room-by, onward-room-by, answered-room, holds-room}
 use Rattle.refusal.specs.Report.{reportOf}
 use Rattle.text.specs.LengthLaws.{decimal-most}
 use Rattle.text.specs.Over.{over}
@@ -29,7 +29,7 @@ use Rattle.context_line.specs.declared.fields.Read.{Read}
 use Rattle.context_line.specs.declared.fields.Read.the-variants as R
 use Rattle.transcript.specs.Transcript.{transcriptMost}
 use Rattle.transcript.specs.TranscriptLaws.{transcript-short}
-use Rattle.crafty.specs.Program.{lineIn, wordsIn, contextIn, endTest, inputTests, replayTextOf, refusedTextOf, printedOf, Prints, RendersWords, Renders}
+use Rattle.crafty.specs.Program.{lineIn, wordsIn, contextIn, endTest, inputTests, replayTextOf, refusedTextOf, printedOf, ReplaysText, Prints, RendersWords, Renders}
 use Rattle.crafty.specs.Room.{written, fits-length}
 use Rattle.crafty.specs.declared.room.Written.{Written}
 use Rattle.crafty.specs.declared.room.Written.the-variants.{Length, Refused}
@@ -112,6 +112,20 @@ module _ (input room : List ℕ) {after : List ℕ} {r : Written} (w : Renders i
 
   pub input-refused : {x : Refusal} → r ≡ Refused x → C.Refused x ≡ checksOf (inputTests input)
   input-refused e = rendered-refused (inputTests input) (replayTextOf input) room (subst (λ (x : Written). Renders input room x after) e w)
+
+  -- the room may be the caller's own, if it is always enough
+  pub replays-whole : transcriptMost ≤ length room → ReplaysText input room r after
+  replays-whole h = by (checksOf (inputTests input)) refl
+    where
+      by : (c : Checked) → c ≡ checksOf (inputTests input) → ReplaysText input room r after
+      by C.Passed e =
+          let is = when-passed (inputTests input) (replayTextOf input) room r after w e in
+          let fits : length (replayTextOf input) ≤ length room = le-trans (text-fits input e) h in
+          subst (λ (x : Written). ReplaysText input room x after) (sym (is .0)) (onward-room-by (inputTests input) (roomTest (length room) (length (replayTextOf input)) ∷ []) e refl (holds-room (le-leb _ _ fits) (answered-room refl refl (is .1))))
+      by (C.Refused x) e =
+          let same = when-refused (inputTests input) (replayTextOf input) room r after w e in
+          subst (λ (y : Written). ReplaysText input room y after) (sym same)
+          (stopped-room-by (inputTests input) (roomTest (length room) (length (replayTextOf input)) ∷ []) e refl (w .room ∙ sym (judged-refused (λ y. room) (over room 0 (replayTextOf input)) (inputTests input) e)))
 
 -- ---- what is printed, by what the tests answer
 

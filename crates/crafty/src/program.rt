@@ -1,9 +1,13 @@
 // The replay program, as functions from bytes to bytes.
+ghost use mathlib.Core.Path.{_≡_};
+ghost use mathlib.Core.Bool.{true};
 ghost use Prim.Native.Nat.{_+_, _≤_};
 ghost use lib.ListN.{length};
 ghost use Rattle.refusal.specs.Judge.{sizeMost};
+ghost use Rattle.text.specs.Over.{over, Put};
+ghost use Rattle.rotation.specs.Words.{wordsKnown, actionsIn};
 ghost use Rattle.craft_context.specs.Limits.{ContextIn};
-ghost use Rattle.transcript.specs.Transcript.{transcriptMost};
+ghost use Rattle.transcript.specs.Transcript.{transcriptMost, transcriptOf};
 ghost use Rattle.crafty.specs.Room.{Fits};
 ghost use Rattle.crafty.specs.Program.{RendersWords, Renders, ReplaysText, refusedTextOf, Prints};
 use super::room::Written;
@@ -19,6 +23,18 @@ use transcript::TRANSCRIPT_MOST;
 // The word, ten digits at most, and a newline.
 const REFUSED_MOST: usize = 19;
 
+// A room for lists of the usual length: one for all that an input can hold takes longer to clear than a short list to replay.
+const FEW: usize = 512;
+
+// The words of a list, read into one room, and its replay rendered into another.
+fn render_known(context: CraftContext, words: &[u8], list: &mut [u8], room: &mut [u8]) -> usize
+    requires { ⌜ ContextIn context × (wordsKnown (now words) ≡ true) × (length (actionsIn (now words)) ≤ length (now list)) × (length (actionsIn (now words)) ≤ sizeMost) × (transcriptMost ≤ length (now room)) ⌝ }
+    ensures { λ r. ⌜ (now (list .exit) ≡ over (now (list .entry)) 0 (actionsIn (now (words .entry)))) × Put (now (room .entry)) 0 (transcriptOf context (actionsIn (now (words .entry)))) r (now (room .exit)) ⌝ }
+{
+    let k = rotation::put_words(words, list);
+    transcript::put_transcript(context, &list[..k], room)
+}
+
 // A list of words, before which `base` bytes of the input stand, replayed in a context.
 fn render_words(context: CraftContext, words: &[u8], base: usize, room: &mut [u8]) -> Written
     requires { ⌜ ContextIn context × (base + length (now words) ≤ sizeMost) × (transcriptMost ≤ length (now room)) ⌝ }
@@ -27,10 +43,13 @@ fn render_words(context: CraftContext, words: &[u8], base: usize, room: &mut [u8
     let counted = rotation::count(words);
     match counted {
         Counted::Unknown(offset) => Written::Refused(Refusal::UnknownWord(base + offset)),
-        Counted::Words(_) => {
+        Counted::Words(k) => {
+            if k <= FEW {
+                let mut list = [0u8; FEW];
+                return Written::Length(render_known(context, words, &mut list, room));
+            }
             let mut list = [0u8; SIZE_MOST];
-            let k = rotation::put_words(words, &mut list);
-            Written::Length(transcript::put_transcript(context, &list[..k], room))
+            Written::Length(render_known(context, words, &mut list, room))
         }
     }
 }
@@ -55,10 +74,13 @@ fn render(input: &[u8], room: &mut [u8]) -> Written
     }
 }
 
-// The whole program: a context's line and a list, and what their replay prints.
+// The whole program: a context's line and a list, and what their replay prints. A room that is always enough is rendered into as it is lent.
 pub fn replay_text(input: &[u8], out: &mut [u8]) -> Written
     ensures { λ r. ⌜ ReplaysText (now (input .entry)) (now (out .entry)) r (now (out .exit)) ⌝ }
 {
+    if out.len() >= TRANSCRIPT_MOST {
+        return render(input, out);
+    }
     let mut room = [0u8; TRANSCRIPT_MOST];
     let rendered = render(input, &mut room);
     match rendered {

@@ -13,34 +13,38 @@ use Rattle.text.specs.OverLaws.{Rendered}
 use Rattle.transcript.specs.Transcript.{transcriptMost}
 use Rattle.crafty.specs.Room.{fits-as}
 use Rattle.crafty.specs.Program.{inputTests, replayTextOf}
-use Rattle.crafty.specs.ProgramLaws.{input-accepted, input-refused}
+use Rattle.crafty.specs.ProgramLaws.{input-accepted, input-refused, replays-whole}
 use Rattle.crafty.proofs.program.replay_text.Statement.{statement}
 use Rattle.crafty.proofs.program.replay_text.Tie as tie
 
-abbrev start-of : tie.After-render → tie.Start
-start-of c = c .before .before .before .before
+abbrev start-of : tie.After-render2 → tie.Start
+start-of c = c .before .before .before .before .before
 
 abbrev input-of : tie.After-rendered2 → List ℕ
 input-of c = start-of (c .before .before .before) .args .input .now
 
+-- the lent room is always enough
+whole : tie.Need-returns
+whole c = let run = c .before .before in replays-whole _ _ (run .render .ensures) (run .before .before .if1 .taken)
+
 -- every test passed, and the text stands in the room
-text : (c : tie.After-rendered2) → (Passed ≡ checksOf (inputTests (input-of c))) × Rendered (replayTextOf (input-of c)) (c .rendered2 .given .0 .0) (c .before .before .before .render .last .1 .0)
-text c = let run = c .before .before .before in input-accepted (input-of c) (replicate transcriptMost 0) (run .render .ensures) (omega arith) (c .rendered2 .given .1)
+text : (c : tie.After-rendered2) → (Passed ≡ checksOf (inputTests (input-of c))) × Rendered (replayTextOf (input-of c)) (c .rendered2 .given .0 .0) (c .before .before .before .render2 .last .1 .0)
+text c = let run = c .before .before .before in input-accepted (input-of c) (replicate transcriptMost 0) (run .render2 .ensures) (omega arith) (c .rendered2 .given .1)
 
 -- refusal 6 last
-abbrev room-last : tie.After-render → List Test
+abbrev room-last : tie.After-render2 → List Test
 room-last c = roomTest (length (start-of c .args .out .now)) (length (replayTextOf (start-of c .args .input .now))) ∷ []
 
-returns : tie.Need-returns
-returns c =
+refused : tie.Need-returns-2
+refused c =
     let found = c .before in
     let run = found .before .before .before in
     let input = start-of run .args .input .now in
-    let stop = input-refused input (replicate transcriptMost 0) (run .render .ensures) (found .rendered .given .1) in
+    let stop = input-refused input (replicate transcriptMost 0) (run .render2 .ensures) (found .rendered .given .1) in
     stopped-room-by (inputTests input) (room-last run) stop refl refl
 
-returns-2 : tie.Need-returns-2
-returns-2 c =
+written : tie.Need-returns-3
+written c =
     let written = c .before .before in
     let found = written .before .before .before .before in
     onward-room-by (inputTests (input-of found)) (room-last (found .before .before .before)) (text found .0) refl (fits-as (text found .1 .same) (written .write .ensures))
@@ -49,6 +53,9 @@ pub replay-text-spec : {M : Type 1} → statement M
 replay-text-spec =
     tie.close
     (tie.spec
+    (λ c κs. search needs)
+    (λ c. search needs)
+    whole
     (λ c. search needs)
     (λ c κs. search needs)
     (λ c. search needs)
@@ -56,6 +63,6 @@ replay-text-spec =
     (λ c. text (c .before) .1 .within)
     (λ c. text (c .before .before) .1 .count)
     (λ c κs. search needs)
-    returns
+    refused
     (λ c. search needs)
-    returns-2)
+    written)
