@@ -8,7 +8,7 @@ use lib.Dec.{T, leb, leb→le, lit≤, eqb}
 use borrow.Author.Tests.{eqb-true}
 use Rattle.laws.specs.Same.{below, below-at}
 use Rattle.action.specs.Actions as A
-use Rattle.action.specs.Limits.{progressMost, qualityMost, durabilityMost, priceMost, discountPrice}
+use Rattle.action.specs.Limits.{progressMost, qualityMost, wearMost, priceMost, discountPrice}
 use Rattle.action.specs.Known.{actions}
 use Rattle.action.specs.Amount.{AtMost, AtLeast}
 use Rattle.action.specs.Table.{actionOf, attributesOf}
@@ -39,7 +39,7 @@ rows-bounded n h =
     record {
       progress = each progressMost (λ a. a .«progress_efficiency») tt n h;
       quality = each qualityMost (λ a. a .«quality_efficiency») tt n h;
-      durability = each durabilityMost (λ a. a .«durability_cost») tt n h;
+      durability = each wearMost (λ a. a .«durability_cost») tt n h;
       price = each priceMost (λ a. a .«cp_cost») tt n h;
       standard = λ e. subst (λ (k : ℕ). AtLeast discountPrice (attributesOf k .«cp_cost»)) (sym e) (lit≤ tt);
       advanced = λ e. subst (λ (k : ℕ). AtLeast discountPrice (attributesOf k .«cp_cost»)) (sym e) (lit≤ tt);

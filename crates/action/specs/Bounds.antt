@@ -3,7 +3,7 @@
 use mathlib.Core.Path.{_≡_}
 use Prim.Native.Nat.{ℕ}
 use Rattle.action.specs.Actions.{StandardTouch, AdvancedTouch}
-use Rattle.action.specs.Limits.{progressMost, qualityMost, durabilityMost, priceMost, discountPrice}
+use Rattle.action.specs.Limits.{progressMost, qualityMost, wearMost, priceMost, discountPrice}
 use Rattle.action.specs.Amount.{present, AtMost, AtLeast}
 use Rattle.action.specs.Table.{attributesOf}
 use Rattle.action.specs.declared.table.Attributes.{Attributes}
@@ -18,7 +18,7 @@ pub record SameShape (row ours : Attributes) : Type 0 where
 pub record RowBounds (n : ℕ) (row : Attributes) : Type 0 where
   pub progress : AtMost progressMost (row .«progress_efficiency»)
   pub quality : AtMost qualityMost (row .«quality_efficiency»)
-  pub durability : AtMost durabilityMost (row .«durability_cost»)
+  pub durability : AtMost wearMost (row .«durability_cost»)
   pub price : AtMost priceMost (row .«cp_cost»)
   -- so that a discount is never a surcharge
   pub standard : n ≡ StandardTouch → AtLeast discountPrice (row .«cp_cost»)

@@ -10,8 +10,8 @@ progressMost = 500
 abbrev pub qualityMost : ℕ
 qualityMost = 300
 
-abbrev pub durabilityMost : ℕ
-durabilityMost = 20
+abbrev pub wearMost : ℕ
+wearMost = 20
 
 abbrev pub priceMost : ℕ
 priceMost = 1000

@@ -6,6 +6,9 @@ ghost use Rattle.craft_state.specs.Line.{shareOf, signedShareOf, shareMo
 use super::state::CraftState;
 use craft_context::CraftContext;
 
+// What a line takes at most.
+pub const LINE_MOST: usize = 126;
+
 // A part of a most, right-aligned, and the unit.
 fn put_share(out: &mut [u8], at: usize, part: u32, most: u32, width: usize, unit: &[u8]) -> usize
     requires { ⌜ (at + shareMost + length (now unit) ≤ length (now out)) × (width ≤ 10) ⌝ }

@@ -5,6 +5,7 @@ mod ranges;
 mod state;
 
 pub use buffs::Buffs;
+pub use display::LINE_MOST;
 pub use display::put_line;
 pub use state::CraftState;
 pub use state::Last;

@@ -90,7 +90,7 @@ pub fn display(context: CraftContext, state: CraftState, out: &mut [u8]) -> Writ
     if let Checked::Refused(x) = given {
         return Written::Refused(x);
     }
-    let mut room = [0u8; 126];
+    let mut room = [0u8; craft_state::LINE_MOST];
     let k = craft_state::put_line(context, state, &mut room, 0);
     write(&room[..k], out)
 }

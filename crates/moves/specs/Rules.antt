@@ -61,11 +61,12 @@ onObserve C.Observe = true
 abbrev pub afterObserve : CraftState → ℕ → Bool
 afterObserve s n = not (onObserve (s .«previous_combo_action»)) || eqb n A.AdvancedTouch
 
--- no finish while a fifth of the quality is missing, and no pure progress under innovation that does not finish
+-- no pure progress under innovation
 abbrev pub unlessPure : CraftState → Amount → Bool
 unlessPure s (Of quality) = true
 unlessPure s Nothing = eqb (s .buffs .innovation) 0
 
+-- no finish while quality is below a fifth of its target; what does not finish is no pure progress under innovation
 abbrev pub mayProgress : CraftContext → CraftState → Amount → Amount → Bool
 mayProgress c s (Of efficiency) quality =
     cond (leb (c .«progress_target») (s .progress + progressGainOf (c .«base_progress_factor») efficiency (s .buffs .veneration) (s .buffs .«muscle_memory»))) (leb (c .«quality_target» / 5) (s .quality)) (unlessPure s quality)

@@ -3,7 +3,7 @@ ghost use mathlib.Core.Path.{_≡_};
 ghost use lib.IntN.{_-ℤ_};
 ghost use Rattle.action.specs.Amount.{AtMost};
 ghost use Rattle.action.specs.Bounds.{RowBounds};
-ghost use Rattle.action.specs.Limits.{durabilityMost};
+ghost use Rattle.action.specs.Limits.{wearMost};
 ghost use Rattle.craft_state.specs.Inside.{Room};
 ghost use Rattle.moves.specs.Rules.{isUnused, noWasteNot, onObserve, withstands, ownRule, strictRule};
 use action::Amount;
@@ -52,7 +52,7 @@ pub fn on_observe(combo: Combo) -> bool
 
 // Durability is enough for the cost.
 fn can_withstand(state: CraftState, attribute: Amount) -> bool
-    requires { ⌜ AtMost durabilityMost attribute ⌝ }
+    requires { ⌜ AtMost wearMost attribute ⌝ }
     ensures { λ r. ⌜ r ≡ withstands state attribute ⌝ }
 {
     let Amount::Of(cost) = attribute else {

@@ -59,7 +59,7 @@ fn may_follow(state: CraftState, n: u8) -> bool
     !on_observe(combo) | (n == action::ADVANCED_TOUCH)
 }
 
-// No finish while too much quality is missing, and no pure progress under innovation that does not finish.
+// No finish while quality is below a part of its target, and no pure progress under innovation that does not finish.
 fn may_progress(context: CraftContext, state: CraftState, progress: Amount, quality: Amount) -> bool
     requires { ⌜ Progressing context state progress ⌝ }
     ensures { λ r. ⌜ r ≡ mayProgress context state progress quality ⌝ }

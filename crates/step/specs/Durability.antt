@@ -10,7 +10,7 @@ use lib.Signed.{leZ, ltZ}
 use mir.Syntax.{w8}
 use mir.Val.{SFits}
 use Rattle.laws.specs.Raise.{raise, raise-add, raise-sub, mag-of, le-raise, fits8}
-use Rattle.action.specs.Limits.{durabilityMost}
+use Rattle.action.specs.Limits.{wearMost}
 use Rattle.craft_state.specs.Inside.{Room}
 
 -- so much given back, up to the most
@@ -30,12 +30,12 @@ refreshedTo d manipulation most = cond (ltb 0 manipulation && ltZ (pos 0) d) (me
 
 -- ---- in a byte
 
-lowered-by : (d : ℤ) (cost : ℕ) (most : ℤ) → Room d most → cost ≤ durabilityMost → raise (d -ℤ pos cost) + cost ≡ raise d
+lowered-by : (d : ℤ) (cost : ℕ) (most : ℤ) → Room d most → cost ≤ wearMost → raise (d -ℤ pos cost) + cost ≡ raise d
 lowered-by d cost most r h =
     let e : raise (d -ℤ pos cost) + (1000 + cost) ≡ raise d + 1000 = raise-sub d (pos cost) (mag-of d 255 (omega arith) (omega arith) (omega arith)) (omega arith) in
     omega arith
 
-pub hurt-fits : (d : ℤ) (cost : ℕ) (most : ℤ) → Room d most → cost ≤ durabilityMost → SFits w8 (d -ℤ pos cost)
+pub hurt-fits : (d : ℤ) (cost : ℕ) (most : ℤ) → Room d most → cost ≤ wearMost → SFits w8 (d -ℤ pos cost)
 hurt-fits d cost most r h =
     let e = lowered-by d cost most r h in
     fits8 (d -ℤ pos cost) (omega arith) (omega arith)
@@ -58,7 +58,7 @@ mended-room d by most r h = go (leZ (d +ℤ pos by) most) (le-raise (d +ℤ pos 
     go false f = record { from = omega arith; to = omega arith; above = r .above; top = r .top }
 
 -- from above 0, a cost leaves -19 at the least
-pub hurt-room : (d : ℤ) (cost : ℕ) (most : ℤ) → Room d most → raise (pos 0) < raise d → cost ≤ durabilityMost → Room (d -ℤ pos cost) most
+pub hurt-room : (d : ℤ) (cost : ℕ) (most : ℤ) → Room d most → raise (pos 0) < raise d → cost ≤ wearMost → Room (d -ℤ pos cost) most
 hurt-room d cost most r a h =
     let e = lowered-by d cost most r h in
     record { from = omega arith; to = omega arith; above = r .above; top = r .top }

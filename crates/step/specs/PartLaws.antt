@@ -10,7 +10,7 @@ use lib.IntN.{ℤ, pos}
 use Rattle.laws.specs.Raise.{raise}
 use Rattle.laws.specs.Tests.{both, cond-le}
 use Rattle.action.specs.Actions as A
-use Rattle.action.specs.Limits.{durabilityMost, qualityMost, targetMost, amountMost, quietMost}
+use Rattle.action.specs.Limits.{wearMost, qualityMost, targetMost, amountMost, quietMost}
 use Rattle.action.specs.Amount.{AtMost}
 use Rattle.action.specs.Gain.{Touchable}
 use Rattle.action.specs.GainLaws.{progress-gain-at-most, quality-gain-at-most}
@@ -70,7 +70,7 @@ wear-at-most cost perfection wasteNot wasteNotII = go perfection (ltb 0 wasteNot
     go false true = omega arith
     go false false = le-refl cost
 
-pub durability-room : (s : CraftState) (most : ℤ) (cost : Amount) → Room (s .durability) most → raise (pos 0) < raise (s .durability) → AtMost durabilityMost cost → Room (durabilityAfter s cost) most
+pub durability-room : (s : CraftState) (most : ℤ) (cost : Amount) → Room (s .durability) most → raise (pos 0) < raise (s .durability) → AtMost wearMost cost → Room (durabilityAfter s cost) most
 durability-room s most (Of cost) r a h =
     hurt-room (s .durability) _ most r a (le-trans (wear-at-most cost (isActive (s .«trained_perfection_active»)) (s .buffs .«waste_not») (s .buffs .«waste_not_ii»)) h)
 durability-room s most Nothing r a h = r

@@ -3,7 +3,7 @@ ghost use mathlib.Core.Path.{_≡_};
 ghost use Prim.Native.Nat.{_≤_};
 ghost use lib.IntN.{pos, _-ℤ_};
 ghost use Rattle.action.specs.Amount.{AtMost};
-ghost use Rattle.action.specs.Limits.{durabilityMost};
+ghost use Rattle.action.specs.Limits.{wearMost};
 ghost use Rattle.craft_state.specs.Inside.{Room};
 ghost use Rattle.step.specs.Durability.{mendedOf, mastersMends, refreshedTo};
 ghost use Rattle.step.specs.Parts.{isActive, spent, wear};
@@ -43,8 +43,8 @@ fn spend(perfection: Perfection, cost: u32) -> Perfection
 
 // What a cost comes to in this state.
 pub fn wears(state: CraftState, cost: u32) -> u32
-    requires { ⌜ cost ≤ durabilityMost ⌝ }
-    ensures { λ r. ⌜ (r ≡ wear state cost) × (r ≤ durabilityMost) ⌝ }
+    requires { ⌜ cost ≤ wearMost ⌝ }
+    ensures { λ r. ⌜ (r ≡ wear state cost) × (r ≤ wearMost) ⌝ }
 {
     let perfection = state.trained_perfection_active;
     action::calc_durability_cost(
@@ -56,7 +56,7 @@ pub fn wears(state: CraftState, cost: u32) -> u32
 }
 
 fn hurt(durability: i8, most: i8, cost: u32) -> i8
-    requires { ⌜ Room durability most × (cost ≤ durabilityMost) ⌝ }
+    requires { ⌜ Room durability most × (cost ≤ wearMost) ⌝ }
     ensures { λ r. ⌜ r ≡ durability -ℤ pos cost ⌝ }
 {
     durability - cost as i8
@@ -75,7 +75,7 @@ pub fn mend(durability: i8, by: u32, most: i8) -> i8
 }
 
 pub fn worn(context: CraftContext, state: CraftState, attribute: Amount) -> CraftState
-    requires { ⌜ Room (state .durability) (context .«durability_max») × AtMost durabilityMost attribute ⌝ }
+    requires { ⌜ Room (state .durability) (context .«durability_max») × AtMost wearMost attribute ⌝ }
     ensures { λ r. ⌜ r ≡ wornOf state attribute ⌝ }
 {
     let Amount::Of(cost) = attribute else {
