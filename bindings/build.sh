@@ -1,8 +1,4 @@
-<<<<<<< HEAD
-# Read by `bindings/test` and by compare/build.sh: builds the archive, and C programs over it that run on this machine.
-=======
-# Read by `bindings/test`, `compare/text`, `compare/trees` and `bench/run`: builds the archive, and C programs over it that run on this machine.
->>>>>>> hB
+# Read by `bindings/test`, compare/build.sh and `bench/run`: builds the archive, and C programs over it that run on this machine.
 # The archive is for x86-64. On another machine a program is built by the kit's compiler and linker, with the headers
 # at hand, and runs under the kit's emulator, loader and C library.
 

@@ -1,8 +1,4 @@
-<<<<<<< HEAD
-# Read by the scripts beside it: finds the Rust source, builds the side that answers from it, and has it ask ours.
-=======
-# Read by the scripts of `compare` and by `bench/run`: finds the Rust source and builds the side that answers from it.
->>>>>>> hB
+# Read by the scripts beside it and by `bench/run`: finds the Rust source, builds the side that answers from it, and has it ask ours.
 
 root=$(cd "$(dirname "${BASH_SOURCE[0]}")/.." && pwd)
 out=$root/target/compare
@@ -28,7 +24,7 @@ fail() {
 
 # skip WHY: ends the script.
 skip() {
-    echo "skipped: compare/$(basename "$0"), $1"
+    echo "skipped: $(basename "$(dirname "$0")")/$(basename "$0"), $1"
     exit 0
 }
 
