@@ -57,7 +57,7 @@ pub fn fresh(context: CraftContext) -> CraftState
     }
 }
 
-// The state with the fields that are enums renewed.
+// The state with the fields that are enums renewed. The buffs go one by one: a copy of them all would wait for the bytes just written.
 pub fn renewed(state: CraftState, combo: Combo, perfection: Perfection, last: Last) -> CraftState
     ensures { λ r. ⌜ r ≡ renewedOf state combo perfection last ⌝ }
 {

@@ -39,8 +39,8 @@ fn keep_allowed(context: CraftContext, state: CraftState, mode: Mode, set: u32) 
     kept
 }
 
-// One candidate of a state that has not ended: the pool has it, and it passes the test. The walk over it alone is the fastest test, since the
-// walk's is the only code of it.
+// One candidate of a state that has not ended: the pool has it, and it passes the test. It is walked over alone, so that the test has one
+// caller and the compiler makes one piece of both.
 pub fn passes(context: CraftContext, state: CraftState, mode: Mode, n: u8) -> bool
     requires { ⌜ Given context state × (n < actions) ⌝ }
     ensures { λ r. ⌜ r ≡ passesOf context state mode n ⌝ }
@@ -64,6 +64,7 @@ pub fn is_legal(context: CraftContext, state: CraftState, mode: Mode, n: u8) -> 
     passes(context, state, mode, n)
 }
 
+// The walk over the pool.
 pub fn legal_moves(context: CraftContext, state: CraftState, mode: Mode) -> u32
     requires { ⌜ Given context state ⌝ }
     ensures { λ r. ⌜ (r ≡ movesOf context state mode) × Inside r ⌝ }
