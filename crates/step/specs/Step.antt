@@ -8,6 +8,7 @@ use Rattle.action.specs.Table.{attributesOf}
 use Rattle.action.specs.declared.table.Amount.{Amount}
 use Rattle.action.specs.declared.table.Attributes.{Attributes}
 use Rattle.craft_context.specs.declared.context.CraftContext.{CraftContext}
+use Rattle.craft_state.specs.declared.buffs.Buffs.{Buffs}
 use Rattle.craft_state.specs.declared.state.CraftState.{CraftState}
 use Rattle.craft_state.specs.declared.state.Last.the-variants as L
 use Rattle.step.specs.Durability.{refreshedTo}
@@ -143,9 +144,9 @@ combinedOf s n =
       action = s .action;
     }
 
--- 8
-unfoldable pub timedOf : CraftState → ℕ → CraftState
-timedOf s n =
+-- the state with other buffs
+abbrev withBuffs : CraftState → Buffs → CraftState
+withBuffs s buffs =
     record {
       step = s .step;
       progress = s .progress;
@@ -155,25 +156,17 @@ timedOf s n =
       «previous_combo_action» = s .«previous_combo_action»;
       «quick_innovation_available» = s .«quick_innovation_available»;
       «trained_perfection_active» = s .«trained_perfection_active»;
-      buffs = cond (eqb n A.QuickInnovation) (s .buffs) (tickedOf (s .buffs));
+      buffs = buffs;
       action = s .action;
     }
 
+-- 8
+unfoldable pub timedOf : CraftState → ℕ → CraftState
+timedOf s n = withBuffs s (cond (eqb n A.QuickInnovation) (s .buffs) (tickedOf (s .buffs)))
+
 -- 9: the buffs that the action sets, and the whole
 unfoldable pub buffedOf : CraftState → ℕ → CraftState
-buffedOf s n =
-    record {
-      step = s .step;
-      progress = s .progress;
-      quality = s .quality;
-      durability = s .durability;
-      cp = s .cp;
-      «previous_combo_action» = s .«previous_combo_action»;
-      «quick_innovation_available» = s .«quick_innovation_available»;
-      «trained_perfection_active» = s .«trained_perfection_active»;
-      buffs = effectOf n (s .buffs);
-      action = s .action;
-    }
+buffedOf s n = withBuffs s (effectOf n (s .buffs))
 
 unfoldable pub affectedOf : CraftContext → CraftState → ℕ → CraftState
 affectedOf c s n =
