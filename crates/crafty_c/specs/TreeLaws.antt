@@ -1,11 +1,9 @@
 -- An answer of the tree, told in numbers: what is so of the one is so of the other.
 -- Assumes nothing.
-use mathlib.Core.Path.{_≡_, refl, sym, ap, _∙_}
+use mathlib.Core.Path.{_≡_, refl}
 use mathlib.Core.List.{List}
 use Prim.Native.Nat.{ℕ}
 use lib.Ieee.{Float}
-use Rattle.refusal.specs.declared.Refusal.{Refusal}
-use Rattle.refusal.specs.Judge.{Kind, Test, Says}
 use Rattle.tree.specs.declared.node.Node.{Node}
 use Rattle.tree.specs.declared.grow.Planted.{Planted}
 use Rattle.tree.specs.declared.grow.Planted.the-variants as P
@@ -20,7 +18,6 @@ use Rattle.tree.specs.declared.paths.Solved.the-variants as S
 use Rattle.tree.specs.Grow.{planted, inserted, Plants, Inserts}
 use Rattle.tree.specs.Back.{propagated, Propagates}
 use Rattle.tree.specs.Paths.{listed, solved, Lists, Solves}
-use Rattle.crafty_c.specs.declared.answer.CraftyAnswer.{CraftyAnswer}
 use Rattle.crafty_c.specs.Answer.{reportIn, report-in, answered}
 use Rattle.crafty_c.specs.AnswerLaws.{says-told}
 use Rattle.crafty_c.specs.Trees.{plantedAnswer, insertedAnswer, propagatedAnswer, listedAnswer, solvedAnswer, solutionAnswered, TellsPlanted, TellsInserted, TellsPropagated, TellsListed, TellsSolved}

@@ -1,13 +1,11 @@
 -- What each function over a host's records answers, and what the records or the lent room hold then: as its entry in tree, told in numbers.
 -- Assumes nothing.
-use mathlib.Core.Path.{_≡_, refl}
 use mathlib.Core.List.{List}
 use Prim.Native.Nat.{ℕ}
 use lib.Ieee.{Float}
 use lib.ListN.{length}
 use Rattle.refusal.specs.declared.Refusal.{Refusal}
 use Rattle.refusal.specs.declared.Report.{Report}
-use Rattle.refusal.specs.Report.{reportOf}
 use Rattle.refusal.specs.Judge.{Kind, Writes}
 use Rattle.text.specs.Over.{over}
 use Rattle.tree.specs.declared.node.Node.{Node}

@@ -3,7 +3,7 @@
 use mathlib.Core.Path.{_≡_, refl, sym, ap, _∙_, subst}
 use mathlib.Core.Bool.{Bool, true, false, not, _&&_, _||_}
 use Prim.Native.Nat.{ℕ, zero, suc, _+_, _-_, _*_, _≤_, _<_, zero-le}
-use native.Mathlib.Nat.{le-trans, le-of-eq, le-of-lt, le-of-mul-le-mul-right, eq-of-mul-eq-mul-right, mul-le-mul-right, mul-one, one-mul, zero-mul, add-mul, mul-assoc, mul-right-comm, sub-zero}
+use native.Mathlib.Nat.{le-trans, le-of-eq, le-of-mul-le-mul-right, eq-of-mul-eq-mul-right, mul-le-mul-right, mul-one, one-mul, zero-mul, add-mul, mul-assoc, mul-right-comm, sub-zero}
 use native.Mathlib.Omega.{arith}
 use lib.Dec.{T, ltb, eqb, lt→ltb, eqb→eq, eqb-refl, lit≤}
 use lib.IntN.{ℤ, pos}
@@ -13,7 +13,7 @@ use lib.Ieee.Digits.{Equals}
 use lib.Ieee.Exact.{HasValue}
 use lib.Ieee.Fits.{down-pos, and-i, eq→eqb}
 use lib.Ieee.Scale.{round-same}
-use borrow.Author.Tests.{ltb-true, ltb-false, eqb-true, eqb-false, lt-ltb, le-ltb, eq-eqb, ne-eqb}
+use borrow.Author.Tests.{ltb-false, eqb-true, eqb-false, lt-ltb, le-ltb, eq-eqb, ne-eqb}
 use Rattle.laws.specs.Tests.{and-left, and-right}
 use Rattle.laws.specs.Small.{Small, or-le}
 use Rattle.tree.specs.Node.{plusZero, one, visitsMost, countMost, float}

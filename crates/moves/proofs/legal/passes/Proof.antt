@@ -6,7 +6,6 @@ use Prim.Native.Nat.{ℕ, _^_}
 use native.Mathlib.Nat.{le-refl}
 use native.Mathlib.Omega.{arith}
 use lib.Pow.{pow-lt}
-use borrow.Author.Needs.{needs}
 use Rattle.laws.specs.Bits.{has}
 use Rattle.laws.specs.BitLaws.{has-top, has-keep}
 use Rattle.action.specs.Known.{actions}
