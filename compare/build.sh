@@ -43,11 +43,11 @@ build_host() {
     set_command host
 }
 
-# check_sample PROGRAM: the sample that rt ci replays is the Rust's, as it is now.
+# check_sample NAME: the sample of the program compare_NAME that rt ci replays is the Rust's, as it is now.
 check_sample() {
     for file in stdin stdout; do
-        "$reference" sample "$1" "$file" | cmp -s - "$root/crates/$1/$file" \
-            || fail "crates/$1/$file is not what compare/sample writes"
+        "$reference" sample "$1" "$file" | cmp -s - "$root/crates/compare_$1/$file" \
+            || fail "crates/compare_$1/$file is not what compare/sample writes"
     done
 }
 

@@ -5,8 +5,8 @@ use mathlib.Core.Bool.{Bool, true}
 use mathlib.Core.List.{List}
 use Prim.Native.Nat.{ℕ, _+_, _≤_, _<_}
 use lib.Dec.{T}
-use Rattle.laws.specs.Same.{sameBool, same-bool}
-use Rattle.laws.specs.Arms.{NoneOf, clear, sift}
+use Rattle.laws.specs.laws.Same.{sameBool, same-bool}
+use Rattle.laws.specs.laws.Arms.{NoneOf, clear, sift}
 use Rattle.action.specs.Table.{row, attributesOf}
 use Rattle.action.specs.declared.table.Amount.{Amount}
 use Rattle.action.proofs.Same.{sameKind, same-kind}

@@ -7,8 +7,8 @@ use Prim.Native.Nat.{ℕ, _+_, _-_, _≤_, _<_}
 use Prim.Native.String.{String}
 use lib.Dec.{T, leb, leb→le}
 use lib.ListN.{length, take, drop, getD}
-use Rattle.laws.specs.Tests.{and-left, and-right}
-use Rattle.laws.specs.Same.{same, same→eq, below-at}
+use Rattle.laws.specs.laws.Tests.{and-left, and-right}
+use Rattle.laws.specs.laws.Same.{same, same→eq, below-at}
 use Rattle.text.specs.Bytes.{bytes}
 use Rattle.action.specs.Texts.{texts, entryOf, entryCount}
 

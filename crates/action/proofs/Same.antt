@@ -3,7 +3,7 @@
 use mathlib.Core.Path.{_≡_, refl, ap}
 use mathlib.Core.Bool.{Bool, true, false, _&&_}
 use lib.Dec.{T, eqb, eqb→eq}
-use Rattle.laws.specs.Tests.{and-left, and-right}
+use Rattle.laws.specs.laws.Tests.{and-left, and-right}
 use Rattle.action.specs.declared.table.Amount.{Amount}
 use Rattle.action.specs.declared.table.Amount.the-variants.{Of, Nothing}
 use Rattle.action.specs.declared.table.Attributes.{Attributes}

@@ -3,15 +3,11 @@ pub mod Amount
 pub mod Table
 pub mod Limits
 pub mod Known
-pub mod KnownLaws
 pub mod Price
 pub mod Wear
 pub mod Gain
-pub mod GainLaws
 pub mod Wait
 pub mod Bounds
-pub mod BoundLaws
 pub mod Names
 pub mod Texts
-pub mod NameLaws
-pub mod Worked
+pub mod laws

@@ -9,10 +9,10 @@ use native.Mathlib.Omega.{arith}
 use lib.ListN.{length, set, length-set}
 use Rattle.laws.specs.Bits.{has}
 use Rattle.text.specs.Over.{over, Put}
-use Rattle.text.specs.OverLaws.{over-none, over-step}
+use Rattle.text.specs.laws.Over.{over-none, over-step}
 use Rattle.action.specs.Known.{actions}
 use Rattle.action_set.specs.Set.{upward, membersOf, sizeOf}
-use Rattle.action_set.specs.SetLaws.{members-size}
+use Rattle.action_set.specs.laws.Set.{members-size}
 
 abbrev later : ℕ → ℕ → List ℕ
 later s m = upward (actions - m) m (has s)

@@ -8,7 +8,7 @@ use lib.ListN.{length}
 use Rattle.refusal.specs.declared.Report.{Report}
 use Rattle.refusal.specs.Report.{reportOf, success}
 use Rattle.refusal.specs.Judge.{Kind, Says, Writes, roomTest}
-use Rattle.laws.specs.Lists.{elem}
+use Rattle.laws.specs.laws.Lists.{elem}
 use Rattle.laws.specs.Bits.{has}
 use Rattle.text.specs.Over.{over}
 use Rattle.action.specs.Known.{listTest}

@@ -1,3 +1,3 @@
 pub mod Set
 pub mod Entries
-pub mod SetLaws
+pub mod laws

@@ -1,9 +1,5 @@
 pub mod Limits
-pub mod LimitLaws
 pub mod Factor
-pub mod FactorLaws
-pub mod FactorWorked
 pub mod Pool
 pub mod Build
-pub mod BuildLaws
-pub mod Worked
+pub mod laws

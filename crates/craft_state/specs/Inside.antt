@@ -4,7 +4,7 @@ use mathlib.Core.Path.{_≡_}
 use mathlib.Core.Bool.{true}
 use Prim.Native.Nat.{_≤_, _<_}
 use lib.IntN.{ℤ, pos}
-use Rattle.laws.specs.Raise.{raise}
+use Rattle.laws.specs.laws.Raise.{raise}
 use Rattle.action.specs.Limits.{amountMost, quietMost}
 use Rattle.craft_context.specs.declared.context.CraftContext.{CraftContext}
 use Rattle.craft_context.specs.Limits.{durabilityMost, ContextIn}

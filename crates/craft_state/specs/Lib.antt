@@ -1,6 +1,5 @@
 pub mod Limits
 pub mod Start
 pub mod Line
-pub mod LineLaws
 pub mod Inside
-pub mod InsideLaws
+pub mod laws

@@ -3,7 +3,5 @@ pub mod Actions
 pub mod States
 pub mod Replays
 pub mod Lists
-pub mod ListLaws
 pub mod Program
-pub mod ProgramLaws
-pub mod OneAnswer
+pub mod laws

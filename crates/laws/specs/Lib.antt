@@ -1,13 +1,2 @@
-pub mod Tests
-pub mod Same
-pub mod Lists
-pub mod Front
-pub mod Arms
 pub mod Bits
-pub mod BitLaws
-pub mod Walk
-pub mod Sign
-pub mod Raise
-pub mod Plus
-pub mod Small
-pub mod NoNan
+pub mod laws

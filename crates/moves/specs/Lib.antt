@@ -1,3 +1,3 @@
 pub mod Rules
 pub mod Moves
-pub mod MoveLaws
+pub mod laws

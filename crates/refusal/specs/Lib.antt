@@ -1,3 +1,3 @@
 pub mod Report
 pub mod Judge
-pub mod JudgeLaws
+pub mod laws

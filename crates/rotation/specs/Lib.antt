@@ -3,15 +3,7 @@
 pub mod Gaps
 pub mod Words
 pub mod Next
-pub mod WordLaws
-pub mod NextLaws
-pub mod WalkLaws
 pub mod First
-pub mod FirstLaws
-pub mod CountLaws
 pub mod Lines
-pub mod LineLaws
 pub mod Seconds
-pub mod SecondLaws
-pub mod Round
-pub mod Worked
+pub mod laws

@@ -1,4 +1,3 @@
 pub mod Score
-pub mod ScoreLaws
 pub mod Result
-pub mod Worked
+pub mod laws

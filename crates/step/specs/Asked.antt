@@ -2,7 +2,7 @@
 -- Assumes nothing.
 use Prim.Native.Nat.{ℕ, _≤_, _<_}
 use lib.IntN.{pos}
-use Rattle.laws.specs.Raise.{raise}
+use Rattle.laws.specs.laws.Raise.{raise}
 use Rattle.action.specs.Known.{actions}
 use Rattle.action.specs.Limits.{amountMost, factorMost, targetMost, progressMost, quietMost}
 use Rattle.action.specs.Amount.{AtMost}

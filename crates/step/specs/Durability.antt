@@ -9,7 +9,7 @@ use lib.IntN.{ℤ, pos, _+ℤ_, _-ℤ_}
 use lib.Signed.{leZ, ltZ}
 use mir.Syntax.{w8}
 use mir.Val.{SFits}
-use Rattle.laws.specs.Raise.{raise, raise-add, raise-sub, mag-of, le-raise, fits8}
+use Rattle.laws.specs.laws.Raise.{raise, raise-add, raise-sub, mag-of, le-raise, fits8}
 use Rattle.action.specs.Limits.{wearMost}
 use Rattle.craft_state.specs.Inside.{Room}
 

@@ -2,5 +2,4 @@ pub mod Durability
 pub mod Parts
 pub mod Step
 pub mod Asked
-pub mod PartLaws
-pub mod StepLaws
+pub mod laws

@@ -1,3 +1,2 @@
 pub mod Transcript
-pub mod TranscriptLaws
-pub mod Worked
+pub mod laws

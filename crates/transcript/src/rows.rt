@@ -4,7 +4,7 @@ ghost use lib.ListN.{length};
 ghost use Rattle.text.specs.Over.{Put};
 ghost use Rattle.craft_state.specs.Inside.{Given};
 ghost use Rattle.transcript.specs.Transcript.{rowOf, rowMost, rowsOf};
-ghost use Rattle.transcript.specs.TranscriptLaws.{Played};
+ghost use Rattle.transcript.specs.laws.Transcript.{Played};
 use craft_context::CraftContext;
 use craft_state::CraftState;
 

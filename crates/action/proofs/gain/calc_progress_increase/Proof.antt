@@ -4,7 +4,7 @@ use Prim.Native.Nat.{_*_, _≤_}
 use native.Mathlib.Nat.{mul-le-mul}
 use native.Mathlib.Omega.{arith}
 use Rattle.action.specs.Limits.{factorMost, progressMost}
-use Rattle.action.specs.GainLaws.{progress-product}
+use Rattle.action.specs.laws.Gain.{progress-product}
 use Rattle.action.proofs.gain.calc_progress_increase.Statement.{statement}
 use Rattle.action.proofs.gain.calc_progress_increase.Tie as tie
 

@@ -4,7 +4,7 @@ use Prim.Native.Nat.{_+_, _*_, _≤_}
 use native.Mathlib.Omega.{arith}
 use borrow.Author.Needs.{needs}
 use Rattle.action.specs.Limits.{factorMost, qualityMost}
-use Rattle.action.specs.GainLaws.{touch-two, touch-three, touch-four}
+use Rattle.action.specs.laws.Gain.{touch-two, touch-three, touch-four}
 use Rattle.action.proofs.gain.touch_increase.Statement.{statement}
 use Rattle.action.proofs.gain.touch_increase.Tie as tie
 

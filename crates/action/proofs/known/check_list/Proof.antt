@@ -3,7 +3,7 @@
 use Prim.Native.Nat.{_-_}
 use native.Mathlib.Omega.{arith}
 use lib.ListN.{length}
-use Rattle.action.specs.KnownLaws.{Front, front-none, front-more, front-ends, front-all}
+use Rattle.action.specs.laws.Known.{Front, front-none, front-more, front-ends, front-all}
 use Rattle.action.proofs.known.check_list.Statement.{statement}
 use Rattle.action.proofs.known.check_list.Tie as tie
 

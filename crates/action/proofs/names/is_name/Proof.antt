@@ -5,9 +5,9 @@ use mathlib.Core.List.{List}
 use Prim.Native.Nat.{ℕ}
 use native.Mathlib.Omega.{arith}
 use borrow.Author.Needs.{needs}
-use Rattle.laws.specs.Same.{same, same-is}
+use Rattle.laws.specs.laws.Same.{same, same-is}
 use Rattle.action.specs.Texts.{texts}
-use Rattle.action.specs.NameLaws.{name-entry}
+use Rattle.action.specs.laws.Names.{name-entry}
 use Rattle.action.proofs.Run.{Part, run, starts, parts}
 use Rattle.action.proofs.names.is_name.Statement.{statement}
 use Rattle.action.proofs.names.is_name.Tie as tie

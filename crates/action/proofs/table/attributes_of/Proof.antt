@@ -5,8 +5,8 @@ use mathlib.Core.List.{List, [], _∷_}
 use mathlib.Core.Logic.{⊎-elim}
 use Prim.Native.Nat.{ℕ, _+_, _≤_, _<_, zero-le}
 use lib.Dec.{T}
-use Rattle.laws.specs.Same.{sameBool, same-bool}
-use Rattle.laws.specs.Arms.{NoneOf, clear}
+use Rattle.laws.specs.laws.Same.{sameBool, same-bool}
+use Rattle.laws.specs.laws.Arms.{NoneOf, clear}
 use mathlib.Core.Bool.{true}
 use Rattle.action.specs.Table.{row, actionOf, attributesOf}
 use Rattle.action.specs.declared.table.Amount.{Amount}

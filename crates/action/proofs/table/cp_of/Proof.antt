@@ -3,7 +3,7 @@
 use mathlib.Core.List.{List, [], _∷_}
 use mathlib.Core.Logic.{⊎-elim}
 use Prim.Native.Nat.{ℕ, zero-le}
-use Rattle.laws.specs.Arms.{at, sift}
+use Rattle.laws.specs.laws.Arms.{at, sift}
 use Rattle.action.specs.Table.{actionOf, attributesOf}
 use Rattle.action.specs.declared.table.Amount.{Amount}
 use Rattle.action.proofs.Same.{sameAmount, same-amount}

@@ -3,7 +3,7 @@
 use mathlib.Core.List.{List, [], _∷_}
 use Prim.Native.Nat.{ℕ, zero-le}
 use lib.Dec.{eqb, eqb→eq}
-use Rattle.laws.specs.Arms.{at, sift}
+use Rattle.laws.specs.laws.Arms.{at, sift}
 use Rattle.action.specs.Table.{actionOf, attributesOf}
 use Rattle.action.proofs.table.level_of.Statement.{statement}
 use Rattle.action.proofs.table.level_of.Tie as tie

@@ -2,9 +2,9 @@
 -- Assumes nothing.
 use native.Mathlib.Omega.{arith}
 use borrow.Author.Needs.{needs}
-use Rattle.text.specs.OverLaws.{then}
+use Rattle.text.specs.laws.Over.{then}
 use Rattle.action.specs.Names.{macroOf}
-use Rattle.action.specs.NameLaws.{macro-length}
+use Rattle.action.specs.laws.Names.{macro-length}
 use Rattle.action.proofs.texts.put_macro_text.Statement.{statement}
 use Rattle.action.proofs.texts.put_macro_text.Tie as tie
 

@@ -6,9 +6,9 @@ use Prim.Native.Nat.{_+_}
 use native.Mathlib.Omega.{arith}
 use lib.ListN.{length, length-append}
 use borrow.Author.Needs.{needs}
-use Rattle.text.specs.OverLaws.{then, put-as}
+use Rattle.text.specs.laws.Over.{then, put-as}
 use Rattle.action.specs.Names.{quotedOf}
-use Rattle.action.specs.NameLaws.{quoted-spaced, quoted-plain}
+use Rattle.action.specs.laws.Names.{quoted-spaced, quoted-plain}
 use Rattle.action.proofs.texts.put_quoted.Statement.{statement}
 use Rattle.action.proofs.texts.put_quoted.Tie as tie
 

@@ -6,9 +6,9 @@ use Prim.Native.Nat.{ℕ}
 use native.Mathlib.Omega.{arith}
 use lib.ListN.{length}
 use borrow.Author.Needs.{needs}
-use Rattle.text.specs.OverLaws.{put-as, Rendered, rendered}
+use Rattle.text.specs.laws.Over.{put-as, Rendered, rendered}
 use Rattle.action.specs.Names.{labelOf, quotedOf}
-use Rattle.action.specs.NameLaws.{label-short}
+use Rattle.action.specs.laws.Names.{label-short}
 use Rattle.action.proofs.texts.put_quoted_label.Statement.{statement}
 use Rattle.action.proofs.texts.put_quoted_label.Tie as tie
 

@@ -6,7 +6,7 @@ use Prim.Native.Nat.{ℕ, _+_, _≤_, _<_}
 use lib.ListN.{length}
 use borrow.Author.Needs.{needs}
 use Rattle.text.specs.Over.{Put}
-use Rattle.text.specs.OverLaws.{put-as}
+use Rattle.text.specs.laws.Over.{put-as}
 use Rattle.action.specs.Known.{actions}
 use Rattle.action.specs.Names.{textOf}
 use Rattle.action.specs.declared.texts.Text.{Text}

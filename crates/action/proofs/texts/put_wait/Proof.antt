@@ -4,7 +4,7 @@ use mathlib.Core.Path.{_≡_, ap, _∙_}
 use mathlib.Core.List.{[], _∷_}
 use Prim.Native.Nat.{ℕ, _+_}
 use borrow.Author.Needs.{needs}
-use Rattle.text.specs.OverLaws.{then, put-as}
+use Rattle.text.specs.laws.Over.{then, put-as}
 use Rattle.action.specs.Wait.{waitOf}
 use Rattle.action.specs.Table.{attributesOf}
 use Rattle.action.proofs.texts.put_wait.Statement.{statement}

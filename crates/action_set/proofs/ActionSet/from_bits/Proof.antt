@@ -2,7 +2,7 @@
 -- Assumes nothing.
 use mathlib.Core.Path.{refl}
 use borrow.Author.Needs.{needs}
-use Rattle.refusal.specs.JudgeLaws.{stopped, onward, answered}
+use Rattle.refusal.specs.laws.Judge.{stopped, onward, answered}
 use Rattle.action_set.proofs.ActionSet.from_bits.Statement.{statement}
 use Rattle.action_set.proofs.ActionSet.from_bits.Tie as tie
 

@@ -2,9 +2,9 @@
 -- Assumes nothing.
 use mathlib.Core.Path.{refl, ap}
 use borrow.Author.Needs.{needs}
-use Rattle.refusal.specs.JudgeLaws.{stopped, onward, answered}
+use Rattle.refusal.specs.laws.Judge.{stopped, onward, answered}
 use Rattle.action_set.specs.Entries.{aSet}
-use Rattle.action.specs.KnownLaws.{list-shown}
+use Rattle.action.specs.laws.Known.{list-shown}
 use Rattle.action_set.proofs.ActionSet.from_list.Statement.{statement}
 use Rattle.action_set.proofs.ActionSet.from_list.Tie as tie
 

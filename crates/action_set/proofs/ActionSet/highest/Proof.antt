@@ -3,12 +3,12 @@
 use mathlib.Core.Path.{refl, sym, ap, _∙_}
 use native.Mathlib.Omega.{arith}
 use borrow.Author.Needs.{needs}
-use Rattle.refusal.specs.JudgeLaws.{stopped, onward, answered}
-use Rattle.laws.specs.BitLaws.{highest-is, highest-none, top-member}
+use Rattle.refusal.specs.laws.Judge.{stopped, onward, answered}
+use Rattle.laws.specs.laws.Bits.{highest-is, highest-none, top-member}
 use Rattle.action.specs.Known.{actions}
 use Rattle.action_set.specs.Set.{Inside, highestOf}
 use Rattle.action_set.specs.declared.Highest.the-variants.{Is, Empty}
-use Rattle.action_set.specs.SetLaws.{set-shown}
+use Rattle.action_set.specs.laws.Set.{set-shown}
 use Rattle.action_set.proofs.ActionSet.highest.Statement.{statement}
 use Rattle.action_set.proofs.ActionSet.highest.Tie as tie
 

@@ -2,8 +2,8 @@
 -- Assumes nothing.
 use mathlib.Core.Path.{refl, ap}
 use borrow.Author.Needs.{needs}
-use Rattle.refusal.specs.JudgeLaws.{stopped, onward, answered}
-use Rattle.action_set.specs.SetLaws.{set-shown}
+use Rattle.refusal.specs.laws.Judge.{stopped, onward, answered}
+use Rattle.action_set.specs.laws.Set.{set-shown}
 use Rattle.action_set.specs.declared.Asked.the-variants.{Is}
 use Prim.Native.Nat.{ℕ}
 use lib.Dec.{eqb}

@@ -2,10 +2,10 @@
 -- Assumes nothing.
 use mathlib.Core.Path.{_≡_, sym, subst}
 use lib.Bits.{bitOr}
-use Rattle.laws.specs.BitLaws.{or-bit}
+use Rattle.laws.specs.laws.Bits.{or-bit}
 use Rattle.action.specs.Known.{actions}
 use Rattle.action_set.specs.Set.{Inside, withOf}
-use Rattle.action_set.specs.SetLaws.{set-inside}
+use Rattle.action_set.specs.laws.Set.{set-inside}
 use Rattle.action_set.proofs.bits.add.Statement.{statement}
 use Rattle.action_set.proofs.bits.add.Tie as tie
 

@@ -5,8 +5,8 @@ use Prim.Native.Nat.{_-_, _<_}
 use native.Mathlib.Omega.{arith}
 use borrow.Author.Tests.{not-true, not-false}
 use Rattle.laws.specs.Bits.{has}
-use Rattle.laws.specs.BitLaws.{has-low}
-use Rattle.laws.specs.Walk.{Walk, start, done, falls, stays, goes}
+use Rattle.laws.specs.laws.Bits.{has-low}
+use Rattle.laws.specs.laws.Walk.{Walk, start, done, falls, stays, goes}
 use Rattle.action.specs.Known.{actions}
 use Rattle.action_set.proofs.bits.keep.Statement.{statement}
 use Rattle.action_set.proofs.bits.keep.Tie as tie

@@ -1,6 +1,6 @@
 -- `action_set::bits::next` meets its contract.
 -- Assumes nothing.
-use Rattle.laws.specs.BitLaws.{top-member}
+use Rattle.laws.specs.laws.Bits.{top-member}
 use Rattle.action.specs.Known.{actions}
 use Rattle.action_set.proofs.bits.next.Statement.{statement}
 use Rattle.action_set.proofs.bits.next.Tie as tie

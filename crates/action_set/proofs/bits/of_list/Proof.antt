@@ -5,11 +5,11 @@ use Prim.Native.Nat.{_-_}
 use native.Mathlib.Omega.{arith}
 use lib.Pow.{pow-pos}
 use lib.ListN.{length, drop, drop-of-length-le}
-use Rattle.laws.specs.Lists.{elem}
+use Rattle.laws.specs.laws.Lists.{elem}
 use Rattle.action.specs.Known.{actions}
-use Rattle.action.specs.KnownLaws.{known-each}
+use Rattle.action.specs.laws.Known.{known-each}
 use Rattle.action_set.specs.Set.{Inside, setOf}
-use Rattle.action_set.specs.SetLaws.{joined, joined-start, joined-turn, joined-end}
+use Rattle.action_set.specs.laws.Set.{joined, joined-start, joined-turn, joined-end}
 use Rattle.action_set.proofs.bits.of_list.Statement.{statement}
 use Rattle.action_set.proofs.bits.of_list.Tie as tie
 

@@ -1,7 +1,7 @@
 -- `action_set::bits::remove` meets its contract.
 -- Assumes nothing.
 use lib.Bits.{and-le-l}
-use Rattle.laws.specs.BitLaws.{less-bit}
+use Rattle.laws.specs.laws.Bits.{less-bit}
 use Rattle.action.specs.Known.{actions}
 use Rattle.action_set.proofs.bits.remove.Statement.{statement}
 use Rattle.action_set.proofs.bits.remove.Tie as tie

@@ -1,6 +1,6 @@
 -- `action_set::bits::size` meets its contract.
 -- Assumes nothing.
-use Rattle.laws.specs.BitLaws.{size-ones}
+use Rattle.laws.specs.laws.Bits.{size-ones}
 use Rattle.action.specs.Known.{actions}
 use Rattle.action_set.proofs.bits.size.Statement.{statement}
 use Rattle.action_set.proofs.bits.size.Tie as tie

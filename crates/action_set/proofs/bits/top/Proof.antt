@@ -3,7 +3,7 @@
 use Prim.Native.Nat.{_<_, _^_}
 use native.Mathlib.Omega.{arith}
 use borrow.Author.Needs.{needs}
-use Rattle.laws.specs.BitLaws.{top-place}
+use Rattle.laws.specs.laws.Bits.{top-place}
 use Rattle.action_set.proofs.bits.top.Statement.{statement}
 use Rattle.action_set.proofs.bits.top.Tie as tie
 

@@ -10,7 +10,7 @@ use Rattle.refusal.specs.Judge.{checkedOf}
 use Rattle.craft_context.specs.Limits.{limitTest}
 use Rattle.context_line.specs.Shape.{fields}
 use Rattle.context_line.specs.Fields.{mosts, fitting, fitsTest}
-use Rattle.context_line.specs.FieldLaws.{fits-on, fits-not, fits-end}
+use Rattle.context_line.specs.laws.Fields.{fits-on, fits-not, fits-end}
 use Rattle.context_line.proofs.fields.check_fits.Statement.{statement}
 use Rattle.context_line.proofs.fields.check_fits.Tie as tie
 

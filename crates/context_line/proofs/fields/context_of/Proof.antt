@@ -8,7 +8,7 @@ use lib.ListN.{getD}
 use mir.Syntax.{w8}
 use mir.Facts.{toZ-pos}
 use Rattle.context_line.specs.Fields.{contextOf}
-use Rattle.context_line.specs.FieldLaws.{at-most}
+use Rattle.context_line.specs.laws.Fields.{at-most}
 use Rattle.context_line.proofs.fields.context_of.Statement.{statement}
 use Rattle.context_line.proofs.fields.context_of.Tie as tie
 

@@ -4,11 +4,11 @@ use mathlib.Core.Path.{_≡_, refl, ap, _∙_}
 use mathlib.Core.List.{List, []}
 use borrow.Author.Needs.{needs}
 use Rattle.refusal.specs.Judge.{Test, checksOf}
-use Rattle.refusal.specs.JudgeLaws.{stopped, onward, stopped-by, onward-by, answered}
+use Rattle.refusal.specs.laws.Judge.{stopped, onward, stopped-by, onward-by, answered}
 use Rattle.craft_context.specs.Limits.{contextTests}
 use Rattle.craft_context.specs.declared.context.CraftContext.{CraftContext}
 use Rattle.context_line.specs.Fields.{contextOf}
-use Rattle.context_line.specs.FieldLaws.{fits-shown}
+use Rattle.context_line.specs.laws.Fields.{fits-shown}
 use Rattle.context_line.specs.declared.fields.Read.the-variants.{Context}
 use Rattle.context_line.proofs.fields.from_numbers.Statement.{statement}
 use Rattle.context_line.proofs.fields.from_numbers.Tie as tie

@@ -6,7 +6,7 @@ use Prim.Native.Nat.{_+_, _-_, _≤_}
 use native.Mathlib.Omega.{arith}
 use borrow.Author.Tests.{eq-eqb, ne-eqb}
 use lib.ListN.{length, drop}
-use Rattle.laws.specs.Front.{front, front-on, front-stop, front-end}
+use Rattle.laws.specs.laws.Front.{front, front-on, front-stop, front-end}
 use Rattle.context_line.specs.Shape.{inLine, lineEnd}
 use Rattle.context_line.proofs.line.line_end.Statement.{statement}
 use Rattle.context_line.proofs.line.line_end.Tie as tie

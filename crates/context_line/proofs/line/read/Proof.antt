@@ -6,10 +6,10 @@ use Prim.Native.Nat.{ℕ}
 use borrow.Author.Needs.{needs}
 use borrow.Author.Tests.{not-true, not-false}
 use Rattle.refusal.specs.Judge.{Says}
-use Rattle.refusal.specs.JudgeLaws.{stopped, onward}
+use Rattle.refusal.specs.laws.Judge.{stopped, onward}
 use Rattle.context_line.specs.Fields.{contextOf, numberTests}
 use Rattle.context_line.specs.Read.{read}
-use Rattle.context_line.specs.ReadLaws.{read-malformed, read-passed, read-numbers}
+use Rattle.context_line.specs.laws.Read.{read-malformed, read-passed, read-numbers}
 use Rattle.context_line.specs.declared.fields.Read.the-variants.{Context}
 use Rattle.context_line.proofs.line.read.Statement.{statement}
 use Rattle.context_line.proofs.line.read.Tie as tie

@@ -7,7 +7,7 @@ use native.Mathlib.Omega.{arith}
 use borrow.Author.Tests.{not-true, not-false}
 use lib.ListN.{length}
 use Rattle.context_line.specs.Shape.{wide, fields}
-use Rattle.context_line.specs.ShapeLaws.{run-within, run-here}
+use Rattle.context_line.specs.laws.Shape.{run-within, run-here}
 use Rattle.context_line.proofs.Walk.{Walk, start, narrow, longer, whole, parted, onward}
 use Rattle.context_line.proofs.line.read_numbers.Statement.{statement}
 use Rattle.context_line.proofs.line.read_numbers.Tie as tie

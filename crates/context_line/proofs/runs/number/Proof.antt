@@ -6,7 +6,7 @@ use native.Mathlib.Nat.{pow-le-pow-right}
 use native.Mathlib.Omega.{arith}
 use lib.ListN.{length, drop}
 use Rattle.text.specs.Reading.{valueOf}
-use Rattle.context_line.specs.RunLaws.{valueAfter, value-on, value-end, value-below}
+use Rattle.context_line.specs.laws.Runs.{valueAfter, value-on, value-end, value-below}
 use Rattle.context_line.proofs.runs.number.Statement.{statement}
 use Rattle.context_line.proofs.runs.number.Tie as tie
 

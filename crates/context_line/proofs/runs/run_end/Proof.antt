@@ -4,7 +4,7 @@ use mathlib.Core.Path.{_≡_, refl, sym, _∙_}
 use Prim.Native.Nat.{_+_, _-_, _≤_}
 use native.Mathlib.Omega.{arith}
 use lib.ListN.{length, drop}
-use Rattle.laws.specs.Front.{front-on, front-stop, front-end}
+use Rattle.laws.specs.laws.Front.{front-on, front-stop, front-end}
 use Rattle.context_line.specs.Shape.{digit, digits}
 use Rattle.context_line.proofs.runs.run_end.Statement.{statement}
 use Rattle.context_line.proofs.runs.run_end.Tie as tie

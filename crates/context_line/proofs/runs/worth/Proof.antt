@@ -2,7 +2,7 @@
 -- Assumes nothing.
 use native.Mathlib.Omega.{arith}
 use borrow.Author.Needs.{needs}
-use Rattle.context_line.specs.RunLaws.{digit-from, digit-to}
+use Rattle.context_line.specs.laws.Runs.{digit-from, digit-to}
 use Rattle.context_line.proofs.runs.worth.Statement.{statement}
 use Rattle.context_line.proofs.runs.worth.Tie as tie
 

@@ -7,9 +7,9 @@ use lib.IntN.{ℤ, natAbs}
 use lib.Signed.{nonNeg}
 use mir.Syntax.{w32}
 use mir.Val.{Fits}
-use Rattle.laws.specs.Sign.{Negative, negative, Plain, plain}
+use Rattle.laws.specs.laws.Sign.{Negative, negative, Plain, plain}
 use Rattle.craft_context.specs.Limits.{durable}
-use Rattle.craft_context.specs.LimitLaws.{durable-none, durable-most}
+use Rattle.craft_context.specs.laws.Limits.{durable-none, durable-most}
 use Rattle.craft_context.proofs.context.is_durable.Statement.{statement}
 use Rattle.craft_context.proofs.context.is_durable.Tie as tie
 

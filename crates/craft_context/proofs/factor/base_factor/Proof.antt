@@ -5,11 +5,11 @@ use Prim.Native.Nat.{_≤_}
 use native.Mathlib.Nat.{lt-of-le-of-lt}
 use lib.Dec.{lit<}
 use lib.Ieee.{toUnsigned}
-use Rattle.laws.specs.Plus.{Plus}
-use Rattle.laws.specs.Small.{Small, above-minus-one, below-pow, truncated-small, truncated-alike}
+use Rattle.laws.specs.laws.Plus.{Plus}
+use Rattle.laws.specs.laws.Small.{Small, above-minus-one, below-pow, truncated-small, truncated-alike}
 use Rattle.action.specs.Limits.{factorMost}
 use Rattle.craft_context.specs.Factor.{}
-use Rattle.craft_context.specs.FactorLaws.{scaled-small, scaled-plus}
+use Rattle.craft_context.specs.laws.Factor.{scaled-small, scaled-plus}
 use Rattle.craft_context.proofs.factor.base_factor.Statement.{statement}
 use Rattle.craft_context.proofs.factor.base_factor.Tie as tie
 

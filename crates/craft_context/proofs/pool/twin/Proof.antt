@@ -1,7 +1,7 @@
 -- `craft_context::pool::twin` meets its contract.
 -- Assumes nothing.
 use borrow.Author.Tests.{ne-eqb}
-use Rattle.laws.specs.Arms.{at}
+use Rattle.laws.specs.laws.Arms.{at}
 use Rattle.craft_context.specs.Pool.{twinOf}
 use Rattle.craft_context.proofs.pool.twin.Statement.{statement}
 use Rattle.craft_context.proofs.pool.twin.Tie as tie

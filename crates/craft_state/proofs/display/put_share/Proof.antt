@@ -1,7 +1,7 @@
 -- `craft_state::display::put_share` meets its contract: four appends, one after another.
 -- Assumes nothing.
 use native.Mathlib.Omega.{arith}
-use Rattle.text.specs.OverLaws.{then}
+use Rattle.text.specs.laws.Over.{then}
 use Rattle.craft_state.specs.Line.{shareOf}
 use borrow.Author.Needs.{needs}
 use Rattle.craft_state.proofs.display.put_share.Statement.{statement}

@@ -8,7 +8,7 @@ use mir.Syntax.{w8}
 use mir.Val.{SFits, toZ, ofZ}
 use mir.ValLaws.{toZ-ofZ}
 use Rattle.text.specs.Decimal.{rightOf, signedOf}
-use Rattle.text.specs.OverLaws.{then, put-as}
+use Rattle.text.specs.laws.Over.{then, put-as}
 use Rattle.craft_state.specs.Line.{signedShareOf}
 use borrow.Author.Needs.{needs}
 use Rattle.craft_state.proofs.display.put_signed_share.Statement.{statement}

@@ -2,7 +2,7 @@
 -- Assumes nothing.
 use mathlib.Core.Path.{refl, ap}
 use borrow.Author.Needs.{needs}
-use Rattle.refusal.specs.JudgeLaws.{stopped, onward, answered}
+use Rattle.refusal.specs.laws.Judge.{stopped, onward, answered}
 use Rattle.crafty.specs.declared.actions.Attributed.the-variants.{Row}
 use Rattle.crafty.proofs.actions.attributes.Statement.{statement}
 use Rattle.crafty.proofs.actions.attributes.Tie as tie

@@ -2,7 +2,7 @@
 -- Assumes nothing.
 use mathlib.Core.Path.{refl, ap, _∙_}
 use borrow.Author.Needs.{needs}
-use Rattle.refusal.specs.JudgeLaws.{stopped, onward, answered}
+use Rattle.refusal.specs.laws.Judge.{stopped, onward, answered}
 use Rattle.crafty.specs.declared.actions.Priced.the-variants.{Costs}
 use Rattle.crafty.proofs.actions.price.Statement.{statement}
 use Rattle.crafty.proofs.actions.price.Tie as tie

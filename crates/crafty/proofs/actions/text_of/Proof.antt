@@ -4,12 +4,12 @@ use mathlib.Core.Path.{refl}
 use Prim.Native.Nat.{_<_}
 use native.Mathlib.Omega.{arith}
 use borrow.Author.Needs.{needs}
-use Rattle.refusal.specs.JudgeLaws.{stopped-room, onward-room}
-use Rattle.text.specs.OverLaws.{Rendered, rendered}
+use Rattle.refusal.specs.laws.Judge.{stopped-room, onward-room}
+use Rattle.text.specs.laws.Over.{Rendered, rendered}
 use Rattle.action.specs.Known.{actions}
-use Rattle.action.specs.KnownLaws.{action-shown}
+use Rattle.action.specs.laws.Known.{action-shown}
 use Rattle.action.specs.Names.{textOf}
-use Rattle.action.specs.NameLaws.{text-short}
+use Rattle.action.specs.laws.Names.{text-short}
 use Rattle.crafty.specs.Room.{fits-as}
 use Rattle.crafty.proofs.actions.text_of.Statement.{statement}
 use Rattle.crafty.proofs.actions.text_of.Tie as tie

@@ -2,7 +2,7 @@
 -- Assumes nothing.
 use mathlib.Core.Path.{refl, ap, _∙_}
 use borrow.Author.Needs.{needs}
-use Rattle.refusal.specs.JudgeLaws.{stopped, onward, answered}
+use Rattle.refusal.specs.laws.Judge.{stopped, onward, answered}
 use Rattle.action.specs.Wait.{waitOf}
 use Rattle.crafty.specs.declared.actions.Timed.the-variants.{Seconds}
 use Rattle.crafty.proofs.actions.wait.Statement.{statement}

@@ -2,7 +2,7 @@
 -- Assumes nothing.
 use mathlib.Core.Path.{refl, ap}
 use borrow.Author.Needs.{needs}
-use Rattle.refusal.specs.JudgeLaws.{stopped, onward, answered, size-shown}
+use Rattle.refusal.specs.laws.Judge.{stopped, onward, answered, size-shown}
 use Rattle.crafty.specs.declared.lists.Lasting.the-variants.{Seconds}
 use Rattle.crafty.proofs.lists.macro_time.Statement.{statement}
 use Rattle.crafty.proofs.lists.macro_time.Tie as tie

@@ -8,9 +8,9 @@ use native.Mathlib.Omega.{arith}
 use lib.ListN.{length}
 use borrow.Author.Needs.{needs}
 use Rattle.refusal.specs.Judge.{checkedOf, roomTest}
-use Rattle.refusal.specs.JudgeLaws.{stopped-room, onward-room, answered-room, room-shown}
+use Rattle.refusal.specs.laws.Judge.{stopped-room, onward-room, answered-room, room-shown}
 use Rattle.rotation.specs.Words.{actionsIn}
-use Rattle.rotation.specs.CountLaws.{words-known, words-count, words-pass, words-stop}
+use Rattle.rotation.specs.laws.Count.{words-known, words-count, words-pass, words-stop}
 use Rattle.crafty.specs.Room.{Fits}
 use Rattle.crafty.specs.Lists.{ReadsList}
 use Rattle.crafty.specs.declared.room.Written.{Written}

@@ -7,9 +7,9 @@ use native.Mathlib.Nat.{zero-add}
 use lib.ListN.{length}
 use borrow.Author.Needs.{needs}
 use Rattle.refusal.specs.Judge.{sizeMost, checkedOf, roomTest}
-use Rattle.refusal.specs.JudgeLaws.{stopped-room, onward-room, answered-room, size-shown, room-shown}
+use Rattle.refusal.specs.laws.Judge.{stopped-room, onward-room, answered-room, size-shown, room-shown}
 use Rattle.action.specs.Known.{knownFront}
-use Rattle.action.specs.KnownLaws.{list-shown}
+use Rattle.action.specs.laws.Known.{list-shown}
 use Rattle.rotation.specs.Lines.{listTextOf}
 use Rattle.crafty.specs.Room.{Fits}
 use Rattle.crafty.specs.Lists.{WritesList}

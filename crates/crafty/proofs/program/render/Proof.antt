@@ -8,16 +8,16 @@ use lib.ListN.{length, take, length-drop}
 use lib.Seq.{length-take-le}
 use borrow.Author.Needs.{needs}
 use Rattle.refusal.specs.Judge.{sizeMost, Says}
-use Rattle.refusal.specs.JudgeLaws.{size-shown, stopped-room, onward-room, stopped-room-by, onward-room-by}
+use Rattle.refusal.specs.laws.Judge.{size-shown, stopped-room, onward-room, stopped-room-by, onward-room-by}
 use Rattle.rotation.specs.Words.{wordsTest}
 use Rattle.context_line.specs.Shape.{lineEnd, numbersOf}
 use Rattle.context_line.specs.Fields.{contextOf}
 use Rattle.context_line.specs.Read.{read, lineTests}
-use Rattle.context_line.specs.ReadLaws.{line-inside}
+use Rattle.context_line.specs.laws.Read.{line-inside}
 use Rattle.context_line.specs.declared.fields.Read.{Read}
 use Rattle.context_line.specs.declared.fields.Read.the-variants as R
 use Rattle.crafty.specs.Program.{lineIn, wordsIn, replayTextOf}
-use Rattle.crafty.specs.ProgramLaws.{end-none, end-some, line-refused, line-accepted, words-rendered}
+use Rattle.crafty.specs.laws.Program.{end-none, end-some, line-refused, line-accepted, words-rendered}
 use Rattle.crafty.proofs.program.render.Statement.{statement}
 use Rattle.crafty.proofs.program.render.Tie as tie
 

@@ -2,8 +2,8 @@
 -- Assumes nothing.
 use mathlib.Core.Path.{ap}
 use borrow.Author.Needs.{needs}
-use Rattle.text.specs.OverLaws.{rendered, put-as}
-use Rattle.rotation.specs.WordLaws.{actions-known}
+use Rattle.text.specs.laws.Over.{rendered, put-as}
+use Rattle.rotation.specs.laws.Words.{actions-known}
 use Rattle.transcript.specs.Transcript.{transcriptOf}
 use Rattle.crafty.proofs.program.render_known.Statement.{statement}
 use Rattle.crafty.proofs.program.render_known.Tie as tie

@@ -8,11 +8,11 @@ use native.Mathlib.Omega.{arith}
 use lib.ListN.{length}
 use borrow.Author.Needs.{needs}
 use Rattle.refusal.specs.Judge.{sizeMost}
-use Rattle.refusal.specs.JudgeLaws.{stopped-room, onward-room, answered-room}
+use Rattle.refusal.specs.laws.Judge.{stopped-room, onward-room, answered-room}
 use Rattle.text.specs.Over.{Put}
 use Rattle.rotation.specs.Words.{actionsIn}
 use Rattle.rotation.specs.declared.words.Counted.the-variants.{Words}
-use Rattle.rotation.specs.CountLaws.{words-known, words-count, words-pass, words-stop, stop-within}
+use Rattle.rotation.specs.laws.Count.{words-known, words-count, words-pass, words-stop, stop-within}
 use Rattle.transcript.specs.Transcript.{transcriptOf}
 use Rattle.crafty.specs.Program.{RendersWords}
 use Rattle.crafty.specs.declared.room.Written.the-variants.{Length}

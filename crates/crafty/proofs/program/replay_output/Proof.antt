@@ -8,11 +8,11 @@ use lib.ListN.{replicate}
 use borrow.Author.Needs.{needs}
 use Rattle.refusal.specs.declared.Checked.the-variants.{Passed}
 use Rattle.refusal.specs.Judge.{checksOf}
-use Rattle.text.specs.OverLaws.{Rendered}
+use Rattle.text.specs.laws.Over.{Rendered}
 use Rattle.transcript.specs.Transcript.{transcriptMost}
 use Rattle.crafty.specs.Room.{fits-as}
 use Rattle.crafty.specs.Program.{inputTests, replayTextOf}
-use Rattle.crafty.specs.ProgramLaws.{input-accepted, input-refused, prints-text, prints-refused}
+use Rattle.crafty.specs.laws.Program.{input-accepted, input-refused, prints-text, prints-refused}
 use Rattle.crafty.proofs.program.replay_output.Statement.{statement}
 use Rattle.crafty.proofs.program.replay_output.Tie as tie
 

@@ -6,13 +6,13 @@ use native.Mathlib.Omega.{arith}
 use mir.Syntax.{w8}
 use mir.Val.{Fits}
 use borrow.Author.Needs.{needs}
-use Rattle.refusal.specs.JudgeLaws.{stopped, stopped-by, onward, onward-by, answered}
+use Rattle.refusal.specs.laws.Judge.{stopped, stopped-by, onward, onward-by, answered}
 use Rattle.action.specs.Known.{listTest}
-use Rattle.action.specs.KnownLaws.{list-shown}
+use Rattle.action.specs.laws.Known.{list-shown}
 use Rattle.craft_context.specs.Limits.{ContextIn, contextTests}
-use Rattle.craft_context.specs.LimitLaws.{context-in}
+use Rattle.craft_context.specs.laws.Limits.{context-in}
 use Rattle.simulator.specs.Promise.{Promise}
-use Rattle.simulator.specs.PromiseLaws.{all-known, promised}
+use Rattle.simulator.specs.laws.Promise.{all-known, promised}
 use Rattle.crafty.specs.declared.replays.Replayed.the-variants.{Report}
 use Rattle.crafty.proofs.replays.replay.Statement.{statement}
 use Rattle.crafty.proofs.replays.replay.Tie as tie

@@ -6,7 +6,7 @@ use native.Mathlib.Nat.{zero-add}
 use native.Mathlib.Omega.{arith}
 use lib.ListN.{length}
 use borrow.Author.Needs.{needs}
-use Rattle.refusal.specs.JudgeLaws.{stopped-room, onward-room, answered-room, room-shown}
+use Rattle.refusal.specs.laws.Judge.{stopped-room, onward-room, answered-room, room-shown}
 use Rattle.crafty.specs.declared.room.Written.the-variants.{Length}
 use Rattle.crafty.proofs.room.write.Statement.{statement}
 use Rattle.crafty.proofs.room.write.Tie as tie

@@ -5,11 +5,11 @@ use mathlib.Core.List.{[], _∷_}
 use lib.ListN.{length}
 use borrow.Author.Needs.{needs}
 use Rattle.refusal.specs.Judge.{roomTest}
-use Rattle.refusal.specs.JudgeLaws.{stopped-room-by, onward-room-by}
-use Rattle.text.specs.OverLaws.{Rendered, rendered}
+use Rattle.refusal.specs.laws.Judge.{stopped-room-by, onward-room-by}
+use Rattle.text.specs.laws.Over.{Rendered, rendered}
 use Rattle.craft_state.specs.Limits.{givenTests}
 use Rattle.craft_state.specs.Line.{lineOf}
-use Rattle.craft_state.specs.LineLaws.{line-short}
+use Rattle.craft_state.specs.laws.Line.{line-short}
 use Rattle.crafty.specs.Room.{fits-as}
 use Rattle.crafty.proofs.states.display.Statement.{statement}
 use Rattle.crafty.proofs.states.display.Tie as tie

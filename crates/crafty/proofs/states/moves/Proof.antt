@@ -4,9 +4,9 @@ use mathlib.Core.Path.{refl, ap}
 use mathlib.Core.List.{[]}
 use Prim.Native.Nat.{ℕ}
 use borrow.Author.Needs.{needs}
-use Rattle.refusal.specs.JudgeLaws.{stopped-by, onward-by, answered}
+use Rattle.refusal.specs.laws.Judge.{stopped-by, onward-by, answered}
 use Rattle.craft_state.specs.Limits.{givenTests}
-use Rattle.craft_state.specs.InsideLaws.{given-in}
+use Rattle.craft_state.specs.laws.Inside.{given-in}
 use Rattle.crafty.specs.declared.states.Allowed.the-variants.{Moves}
 use Rattle.crafty.proofs.states.moves.Statement.{statement}
 use Rattle.crafty.proofs.states.moves.Tie as tie

@@ -3,9 +3,9 @@
 use mathlib.Core.Path.{refl, ap}
 use mathlib.Core.List.{[]}
 use borrow.Author.Needs.{needs}
-use Rattle.refusal.specs.JudgeLaws.{stopped-by, onward-by, answered}
+use Rattle.refusal.specs.laws.Judge.{stopped-by, onward-by, answered}
 use Rattle.craft_state.specs.Limits.{givenTests}
-use Rattle.craft_state.specs.InsideLaws.{given-in}
+use Rattle.craft_state.specs.laws.Inside.{given-in}
 use Rattle.crafty.specs.declared.states.Scored.the-variants.{Score}
 use Rattle.crafty.proofs.states.score.Statement.{statement}
 use Rattle.crafty.proofs.states.score.Tie as tie

@@ -5,16 +5,16 @@ use mathlib.Core.Bool.{Bool}
 use mathlib.Core.List.{List, [], _∷_, _++_}
 use borrow.Author.Needs.{needs}
 use Rattle.refusal.specs.Judge.{Test, Says}
-use Rattle.refusal.specs.JudgeLaws.{stopped, stopped-by, onward, onward-by, answered}
+use Rattle.refusal.specs.laws.Judge.{stopped, stopped-by, onward, onward-by, answered}
 use Rattle.laws.specs.Bits.{has}
 use Rattle.action.specs.Known.{actionTest}
-use Rattle.action.specs.KnownLaws.{action-shown}
+use Rattle.action.specs.laws.Known.{action-shown}
 use Rattle.craft_state.specs.Limits.{givenTests}
 use Rattle.craft_state.specs.Inside.{Given}
-use Rattle.craft_state.specs.InsideLaws.{given-in}
+use Rattle.craft_state.specs.laws.Inside.{given-in}
 use Rattle.step.specs.Step.{executeOf}
 use Rattle.moves.specs.Moves.{movesOf}
-use Rattle.moves.specs.MoveLaws.{legal-playable}
+use Rattle.moves.specs.laws.Moves.{legal-playable}
 use Rattle.crafty.specs.States.{stepped, legalTest}
 use Rattle.crafty.specs.declared.states.Stepped.{Stepped}
 use Rattle.crafty.specs.declared.states.Stepped.the-variants.{To}

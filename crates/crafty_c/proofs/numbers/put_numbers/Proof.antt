@@ -7,7 +7,7 @@ use native.Mathlib.Nat.{zero-add}
 use native.Mathlib.Omega.{arith}
 use lib.ListN.{length, set, drop, getD, length-set}
 use Rattle.text.specs.Over.{over}
-use Rattle.text.specs.OverLaws.{over-next, over-end}
+use Rattle.text.specs.laws.Over.{over-next, over-end}
 use Rattle.crafty_c.proofs.numbers.put_numbers.Statement.{statement}
 use Rattle.crafty_c.proofs.numbers.put_numbers.Tie as tie
 

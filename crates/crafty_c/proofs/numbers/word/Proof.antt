@@ -2,7 +2,7 @@
 -- Assumes nothing.
 use mathlib.Core.Path.{sym, ap}
 use native.Mathlib.Omega.{arith}
-use Rattle.laws.specs.Sign.{Negative, negative, Plain, plain}
+use Rattle.laws.specs.laws.Sign.{Negative, negative, Plain, plain}
 use Rattle.crafty_c.specs.Numbers.{wordOf}
 use Rattle.crafty_c.proofs.numbers.word.Statement.{statement}
 use Rattle.crafty_c.proofs.numbers.word.Tie as tie

@@ -3,12 +3,12 @@
 use mathlib.Core.Path.{refl, sym, subst}
 use borrow.Author.Needs.{needs}
 use Rattle.refusal.specs.Judge.{Says}
-use Rattle.refusal.specs.JudgeLaws.{stopped-room-by, onward-room-by}
+use Rattle.refusal.specs.laws.Judge.{stopped-room-by, onward-room-by}
 use Rattle.craft_context.specs.declared.context.CraftContext.{CraftContext}
 use Rattle.context_line.specs.declared.fields.Read.the-variants as R
 use Rattle.context_line.specs.Fields.{contextOf, numberTests}
 use Rattle.context_line.specs.Read.{read}
-use Rattle.context_line.specs.ReadLaws.{read-context, read-refused, numbers-inside}
+use Rattle.context_line.specs.laws.Read.{read-context, read-refused, numbers-inside}
 use Rattle.crafty_c.specs.Replays.{Reports, reportTests}
 use Rattle.crafty_c.proofs.replays.replay.Statement.{statement}
 use Rattle.crafty_c.proofs.replays.replay.Tie as tie

@@ -8,12 +8,12 @@ use lib.ListN.{length}
 use mir.Syntax.{w8}
 use mir.Val.{Fits}
 use borrow.Author.Needs.{needs}
-use Rattle.refusal.specs.JudgeLaws.{stopped-room, onward-room, answered-room, room-shown}
+use Rattle.refusal.specs.laws.Judge.{stopped-room, onward-room, answered-room, room-shown}
 use Rattle.text.specs.Over.{over}
 use Rattle.action.specs.Known.{knownFront}
-use Rattle.action.specs.KnownLaws.{list-shown}
+use Rattle.action.specs.laws.Known.{list-shown}
 use Rattle.craft_state.specs.Limits.{stepMost}
-use Rattle.simulator.specs.PromiseLaws.{all-known, promised}
+use Rattle.simulator.specs.laws.Promise.{all-known, promised}
 use Rattle.crafty_c.specs.Numbers.{numbersLength, numbersOf}
 use Rattle.crafty_c.proofs.replays.report.Statement.{statement}
 use Rattle.crafty_c.proofs.replays.report.Tie as tie

@@ -1,6 +1,6 @@
 -- `crafty_c::texts::crafty_macro_time` meets its contract.
 -- Assumes nothing.
-use Rattle.crafty_c.specs.AnswerLaws.{says-lasted}
+use Rattle.crafty_c.specs.laws.Answer.{says-lasted}
 use Rattle.crafty_c.proofs.texts.crafty_macro_time.Statement.{statement}
 use Rattle.crafty_c.proofs.texts.crafty_macro_time.Tie as tie
 

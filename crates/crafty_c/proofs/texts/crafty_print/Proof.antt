@@ -1,7 +1,7 @@
 -- `crafty_c::texts::crafty_print` meets its contract.
 -- Assumes nothing.
 use borrow.Author.Needs.{needs}
-use Rattle.crafty_c.specs.AnswerLaws.{writes-told}
+use Rattle.crafty_c.specs.laws.Answer.{writes-told}
 use Rattle.crafty_c.proofs.texts.crafty_print.Statement.{statement}
 use Rattle.crafty_c.proofs.texts.crafty_print.Tie as tie
 

@@ -5,7 +5,7 @@ use Rattle.walks.proofs.Walking.{refl, sym, subst, tables, _$_, !, no-more, cit
 use Rattle.tree.proofs.TypesBack.{backpropagate′}
 use Rattle.crafty_c.specs.declared.answer.CraftyAnswer.{CraftyAnswer}
 use Rattle.crafty_c.specs.Trees.{TellsPropagated}
-use Rattle.crafty_c.specs.TreeLaws.{propagated-told}
+use Rattle.crafty_c.specs.laws.Trees.{propagated-told}
 use Rattle.crafty_c.proofs.Types.{propagated-answer′, tree-backpropagate′}
 use Rattle.tree.proofs.backpropagate.Symbol as backpropagate
 use Rattle.tree.proofs.backpropagate.Met as backpropagate-thm

@@ -5,7 +5,7 @@ use Rattle.walks.proofs.Walking.{refl, sym, subst, tables, _$_, !, no-more, cit
 use Rattle.tree.proofs.TypesEntries.{children′}
 use Rattle.crafty_c.specs.declared.answer.CraftyAnswer.{CraftyAnswer}
 use Rattle.crafty_c.specs.Trees.{TellsListed}
-use Rattle.crafty_c.specs.TreeLaws.{listed-told}
+use Rattle.crafty_c.specs.laws.Trees.{listed-told}
 use Rattle.crafty_c.proofs.Types.{listed-answer′, tree-children′}
 use Rattle.tree.proofs.children.Symbol as children
 use Rattle.tree.proofs.children.Met as children-thm

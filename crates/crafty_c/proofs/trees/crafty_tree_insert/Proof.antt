@@ -5,7 +5,7 @@ use Rattle.walks.proofs.Walking.{refl, sym, subst, tables, _$_, !, no-more, cit
 use Rattle.tree.proofs.TypesGrow.{insert′}
 use Rattle.crafty_c.specs.declared.answer.CraftyAnswer.{CraftyAnswer}
 use Rattle.crafty_c.specs.Trees.{TellsInserted}
-use Rattle.crafty_c.specs.TreeLaws.{inserted-told}
+use Rattle.crafty_c.specs.laws.Trees.{inserted-told}
 use Rattle.crafty_c.proofs.Types.{inserted-answer′, tree-insert′}
 use Rattle.tree.proofs.insert.Symbol as insert
 use Rattle.tree.proofs.insert.Met as insert-thm

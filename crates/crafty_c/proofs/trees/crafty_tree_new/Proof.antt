@@ -5,7 +5,7 @@ use Rattle.walks.proofs.Walking.{refl, sym, subst, tables, _$_, !, no-more, cit
 use Rattle.tree.proofs.TypesGrow.{plant′}
 use Rattle.crafty_c.specs.declared.answer.CraftyAnswer.{CraftyAnswer}
 use Rattle.crafty_c.specs.Trees.{TellsPlanted}
-use Rattle.crafty_c.specs.TreeLaws.{planted-told}
+use Rattle.crafty_c.specs.laws.Trees.{planted-told}
 use Rattle.crafty_c.proofs.Types.{planted-answer′, tree-new′}
 use Rattle.tree.proofs.plant.Symbol as plant
 use Rattle.tree.proofs.plant.Met as plant-thm

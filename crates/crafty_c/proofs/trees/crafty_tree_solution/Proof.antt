@@ -5,7 +5,7 @@ use Rattle.walks.proofs.Walking.{refl, sym, subst, tables, _$_, !, no-more, cit
 use Rattle.tree.proofs.TypesEntries.{solution′}
 use Rattle.crafty_c.specs.declared.trees.CraftySolution.{CraftySolution}
 use Rattle.crafty_c.specs.Trees.{TellsSolved}
-use Rattle.crafty_c.specs.TreeLaws.{solved-told}
+use Rattle.crafty_c.specs.laws.Trees.{solved-told}
 use Rattle.crafty_c.proofs.Types.{solved-answer′, tree-solution′}
 use Rattle.tree.proofs.solution.Symbol as solution
 use Rattle.tree.proofs.solution.Met as solution-thm

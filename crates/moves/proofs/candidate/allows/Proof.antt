@@ -1,7 +1,7 @@
 -- `moves::candidate::allows` meets its contract.
 -- Assumes nothing.
 use mathlib.Core.Path.{ap, _∙_}
-use Rattle.action.specs.BoundLaws.{rows-bounded}
+use Rattle.action.specs.laws.Bounds.{rows-bounded}
 use Rattle.moves.specs.Moves.{allowedOf}
 use Rattle.moves.proofs.candidate.allows.Statement.{statement}
 use Rattle.moves.proofs.candidate.allows.Tie as tie

@@ -1,7 +1,7 @@
 -- `moves::legal::is_legal` meets its contract.
 -- Assumes nothing.
 use mathlib.Core.Path.{sym, _∙_}
-use Rattle.moves.specs.MoveLaws.{has-moves}
+use Rattle.moves.specs.laws.Moves.{has-moves}
 use Rattle.moves.proofs.legal.is_legal.Statement.{statement}
 use Rattle.moves.proofs.legal.is_legal.Tie as tie
 

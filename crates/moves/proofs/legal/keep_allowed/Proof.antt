@@ -4,8 +4,8 @@ use mathlib.Core.Path.{sym, _∙_}
 use Prim.Native.Nat.{_-_, _<_}
 use native.Mathlib.Omega.{arith}
 use borrow.Author.Tests.{not-true, not-false}
-use Rattle.laws.specs.BitLaws.{has-low}
-use Rattle.laws.specs.Walk.{Walk, start, done, falls, stays, goes}
+use Rattle.laws.specs.laws.Bits.{has-low}
+use Rattle.laws.specs.laws.Walk.{Walk, start, done, falls, stays, goes}
 use Rattle.action.specs.Known.{actions}
 use Rattle.action_set.specs.Set.{Inside}
 use Rattle.moves.specs.Moves.{allowsOf}

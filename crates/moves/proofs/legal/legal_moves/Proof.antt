@@ -2,7 +2,7 @@
 -- Assumes nothing.
 use mathlib.Core.Path.{sym, _∙_}
 use lib.Dec.{lit<}
-use Rattle.moves.specs.MoveLaws.{moves-ended, moves-on}
+use Rattle.moves.specs.laws.Moves.{moves-ended, moves-on}
 use Rattle.moves.proofs.legal.legal_moves.Statement.{statement}
 use Rattle.moves.proofs.legal.legal_moves.Tie as tie
 

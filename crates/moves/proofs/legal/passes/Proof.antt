@@ -7,7 +7,7 @@ use native.Mathlib.Nat.{le-refl}
 use native.Mathlib.Omega.{arith}
 use lib.Pow.{pow-lt}
 use Rattle.laws.specs.Bits.{has}
-use Rattle.laws.specs.BitLaws.{has-top, has-keep}
+use Rattle.laws.specs.laws.Bits.{has-top, has-keep}
 use Rattle.action.specs.Known.{actions}
 use Rattle.action_set.specs.Set.{Inside}
 use Rattle.moves.specs.Moves.{allowsOf}

@@ -1,7 +1,7 @@
 -- `moves::own::lost` meets its contract.
 -- Assumes nothing.
 use native.Mathlib.Omega.{arith}
-use Rattle.laws.specs.Raise.{sub8, sub8-is}
+use Rattle.laws.specs.laws.Raise.{sub8, sub8-is}
 use Rattle.moves.proofs.own.lost.Statement.{statement}
 use Rattle.moves.proofs.own.lost.Tie as tie
 

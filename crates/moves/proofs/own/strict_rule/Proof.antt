@@ -8,7 +8,7 @@ use mir.ValLaws.{toZ-ofZ}
 use borrow.Author.Needs.{needs}
 use borrow.Author.Tests.{ne-eqb}
 use Rattle.action.specs.Actions as A
-use Rattle.craft_state.specs.InsideLaws.{room-read}
+use Rattle.craft_state.specs.laws.Inside.{room-read}
 use Rattle.moves.specs.Rules.{strictRule}
 use Rattle.moves.proofs.own.strict_rule.Statement.{statement}
 use Rattle.moves.proofs.own.strict_rule.Tie as tie

@@ -2,7 +2,7 @@
 -- Assumes nothing.
 use native.Mathlib.Omega.{arith}
 use borrow.Author.Needs.{needs}
-use Rattle.rotation.specs.LineLaws.{line-short}
+use Rattle.rotation.specs.laws.Lines.{line-short}
 use Rattle.rotation.proofs.lines.line_len.Statement.{statement}
 use Rattle.rotation.proofs.lines.line_len.Tie as tie
 

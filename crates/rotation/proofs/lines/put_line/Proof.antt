@@ -2,7 +2,7 @@
 -- Assumes nothing.
 use native.Mathlib.Omega.{arith}
 use borrow.Author.Needs.{needs}
-use Rattle.rotation.specs.LineLaws.{line-length, line-put}
+use Rattle.rotation.specs.laws.Lines.{line-length, line-put}
 use Rattle.rotation.proofs.lines.put_line.Statement.{statement}
 use Rattle.rotation.proofs.lines.put_line.Tie as tie
 

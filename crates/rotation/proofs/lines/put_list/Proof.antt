@@ -5,10 +5,10 @@ use Prim.Native.Nat.{_+_, _-_, _≤_}
 use native.Mathlib.Omega.{arith}
 use lib.ListN.{length, drop}
 use Rattle.text.specs.Over.{over}
-use Rattle.text.specs.OverLaws.{over-none}
-use Rattle.action.specs.KnownLaws.{known-each}
+use Rattle.text.specs.laws.Over.{over-none}
+use Rattle.action.specs.laws.Known.{known-each}
 use Rattle.rotation.specs.Lines.{listTextOf}
-use Rattle.rotation.specs.LineLaws.{lines-length, lines-turn, lines-end}
+use Rattle.rotation.specs.laws.Lines.{lines-length, lines-turn, lines-end}
 use Rattle.rotation.proofs.lines.put_list.Statement.{statement}
 use Rattle.rotation.proofs.lines.put_list.Tie as tie
 

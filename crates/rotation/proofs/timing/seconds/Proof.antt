@@ -6,7 +6,7 @@ use native.Mathlib.Omega.{arith}
 use lib.ListN.{length, drop}
 use Rattle.action.specs.Wait.{waitOf}
 use Rattle.rotation.specs.Seconds.{secondsOf}
-use Rattle.rotation.specs.SecondLaws.{seconds-on, seconds-end}
+use Rattle.rotation.specs.laws.Seconds.{seconds-on, seconds-end}
 use Rattle.rotation.proofs.timing.seconds.Statement.{statement}
 use Rattle.rotation.proofs.timing.seconds.Tie as tie
 

@@ -5,9 +5,9 @@ use native.Mathlib.Omega.{arith}
 use lib.ListN.{length}
 use denote.Ref.{now}
 use borrow.Author.Needs.{needs}
-use Rattle.rotation.specs.WordLaws.{actions-most}
-use Rattle.rotation.specs.NextLaws.{Turn, next-is}
-use Rattle.rotation.specs.WalkLaws.{Counting, counting-starts, counting-on, counted-all, counted-unknown}
+use Rattle.rotation.specs.laws.Words.{actions-most}
+use Rattle.rotation.specs.laws.Next.{Turn, next-is}
+use Rattle.rotation.specs.laws.Walk.{Counting, counting-starts, counting-on, counted-all, counted-unknown}
 use Rattle.rotation.proofs.words.count.Statement.{statement}
 use Rattle.rotation.proofs.words.count.Tie as tie
 

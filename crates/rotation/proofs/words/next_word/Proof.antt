@@ -3,7 +3,7 @@
 use mathlib.Core.Path.{sym, _∙_}
 use native.Mathlib.Omega.{arith}
 use borrow.Author.Needs.{needs}
-use Rattle.rotation.specs.NextLaws.{next-end, end-within, next-found}
+use Rattle.rotation.specs.laws.Next.{next-end, end-within, next-found}
 use Rattle.rotation.proofs.words.next_word.Statement.{statement}
 use Rattle.rotation.proofs.words.next_word.Tie as tie
 

@@ -5,8 +5,8 @@ use native.Mathlib.Omega.{arith}
 use lib.ListN.{length}
 use borrow.Author.Needs.{needs}
 use denote.Ref.{now}
-use Rattle.rotation.specs.NextLaws.{Turn, next-is}
-use Rattle.rotation.specs.WalkLaws.{Putting, putting-starts, putting-room, putting-on, put-all, put-known}
+use Rattle.rotation.specs.laws.Next.{Turn, next-is}
+use Rattle.rotation.specs.laws.Walk.{Putting, putting-starts, putting-room, putting-on, put-all, put-known}
 use Rattle.rotation.proofs.words.put_words.Statement.{statement}
 use Rattle.rotation.proofs.words.put_words.Tie as tie
 

@@ -3,7 +3,7 @@
 use mathlib.Core.Path.{ap, _∙_}
 use borrow.Author.Needs.{needs}
 use borrow.Author.Tests.{le-leb, lt-leb, eq-eqb, ne-eqb}
-use Rattle.craft_state.specs.InsideLaws.{room-read}
+use Rattle.craft_state.specs.laws.Inside.{room-read}
 use Rattle.score.specs.Result.{judgedBy}
 use Rattle.score.specs.declared.result.CraftResult.the-variants.{Finished}
 use Rattle.score.proofs.result.judge.Statement.{statement}

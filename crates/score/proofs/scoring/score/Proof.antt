@@ -7,7 +7,7 @@ use lib.Dec.{T}
 use lib.Ieee.{Float, isNan}
 use borrow.Author.Tests.{eq-eqb, ne-eqb}
 use Rattle.score.specs.Score.{scoreOf}
-use Rattle.score.specs.ScoreLaws.{score-no-nan}
+use Rattle.score.specs.laws.Score.{score-no-nan}
 use Rattle.score.proofs.scoring.score.Statement.{statement}
 use Rattle.score.proofs.scoring.score.Tie as tie
 

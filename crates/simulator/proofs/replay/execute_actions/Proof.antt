@@ -7,14 +7,14 @@ use native.Mathlib.Omega.{arith}
 use lib.ListN.{length, drop, getD}
 use borrow.Author.Tests.{not-true, not-false}
 use Rattle.action.specs.Known.{actions}
-use Rattle.action.specs.KnownLaws.{known-each}
+use Rattle.action.specs.laws.Known.{known-each}
 use Rattle.craft_state.specs.declared.state.CraftState.{CraftState}
 use Rattle.craft_state.specs.Inside.{Given}
-use Rattle.craft_state.specs.InsideLaws.{start-in}
+use Rattle.craft_state.specs.laws.Inside.{start-in}
 use Rattle.moves.specs.Moves.{ended, passesOf}
-use Rattle.moves.specs.MoveLaws.{legal-keeps, legal-playable}
+use Rattle.moves.specs.laws.Moves.{legal-keeps, legal-playable}
 use Rattle.simulator.specs.Replay.{replayFrom, replayOf}
-use Rattle.simulator.specs.ReplayLaws.{legal-is, replay-stop, place-on, place-slip, place-end}
+use Rattle.simulator.specs.laws.Replay.{legal-is, replay-stop, place-on, place-slip, place-end}
 use Rattle.simulator.proofs.replay.execute_actions.Statement.{statement}
 use Rattle.simulator.proofs.replay.execute_actions.Tie as tie
 

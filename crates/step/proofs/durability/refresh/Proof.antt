@@ -6,7 +6,7 @@ use mir.Syntax.{w8}
 use mir.Val.{SFits}
 use mir.ValLaws.{toZ-ofZ}
 use borrow.Author.Needs.{needs}
-use Rattle.craft_state.specs.InsideLaws.{room-read}
+use Rattle.craft_state.specs.laws.Inside.{room-read}
 use Rattle.step.proofs.durability.refresh.Statement.{statement}
 use Rattle.step.proofs.durability.refresh.Tie as tie
 

@@ -1,6 +1,6 @@
 -- `step::durability::refreshed` meets its contract.
 -- Assumes nothing.
-use Rattle.craft_state.specs.InsideLaws.{room-read}
+use Rattle.craft_state.specs.laws.Inside.{room-read}
 use Rattle.step.specs.Step.{refreshedOf}
 use Rattle.step.proofs.durability.refreshed.Statement.{statement}
 use Rattle.step.proofs.durability.refreshed.Tie as tie

@@ -2,7 +2,7 @@
 -- Assumes nothing.
 use mathlib.Core.Path.{_∙_}
 use native.Mathlib.Omega.{arith}
-use Rattle.step.specs.PartLaws.{wear-at-most}
+use Rattle.step.specs.laws.Parts.{wear-at-most}
 use Rattle.step.proofs.durability.wears.Statement.{statement}
 use Rattle.step.proofs.durability.wears.Tie as tie
 

@@ -2,7 +2,7 @@
 -- Assumes nothing.
 use borrow.Author.Needs.{needs}
 use Rattle.craft_state.specs.Start.{renewedOf}
-use Rattle.craft_state.specs.InsideLaws.{room-read}
+use Rattle.craft_state.specs.laws.Inside.{room-read}
 use Rattle.step.specs.Step.{wornOf}
 use Rattle.step.proofs.durability.worn.Statement.{statement}
 use Rattle.step.proofs.durability.worn.Tie as tie

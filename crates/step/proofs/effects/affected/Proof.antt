@@ -1,7 +1,7 @@
 -- `step::effects::affected` meets its contract.
 -- Assumes nothing.
 use Rattle.craft_state.specs.Start.{renewedOf}
-use Rattle.craft_state.specs.InsideLaws.{room-read}
+use Rattle.craft_state.specs.laws.Inside.{room-read}
 use Rattle.step.specs.Step.{affectedOf, buffedOf}
 use Rattle.step.proofs.effects.affected.Statement.{statement}
 use Rattle.step.proofs.effects.affected.Tie as tie

@@ -7,7 +7,7 @@ use mir.Val.{SFits}
 use mir.ValLaws.{toZ-ofZ}
 use borrow.Author.Needs.{needs}
 use borrow.Author.Tests.{eq-eqb, ne-eqb}
-use Rattle.craft_state.specs.InsideLaws.{room-read}
+use Rattle.craft_state.specs.laws.Inside.{room-read}
 use Rattle.step.proofs.effects.mended.Statement.{statement}
 use Rattle.step.proofs.effects.mended.Tie as tie
 

@@ -2,10 +2,10 @@
 -- Assumes nothing.
 use borrow.Author.Needs.{needs}
 use Rattle.action.specs.Bounds.{RowBounds}
-use Rattle.action.specs.BoundLaws.{rows-bounded}
+use Rattle.action.specs.laws.Bounds.{rows-bounded}
 use Rattle.action.specs.Table.{attributesOf}
 use Rattle.step.specs.Step.{executedOf}
-use Rattle.step.specs.StepLaws.{progressing, touching, improved-room, worn-room, refreshed-payable, timed-room}
+use Rattle.step.specs.laws.Step.{progressing, touching, improved-room, worn-room, refreshed-payable, timed-room}
 use Rattle.step.proofs.whole.execute.Statement.{statement}
 use Rattle.step.proofs.whole.execute.Tie as tie
 

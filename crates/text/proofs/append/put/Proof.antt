@@ -7,7 +7,7 @@ use native.Mathlib.Nat.{add-zero}
 use lib.ListN.{length, drop, length-set}
 use denote.Ref.{now}
 use Rattle.text.specs.Over.{over}
-use Rattle.text.specs.OverLaws.{over-next, over-end}
+use Rattle.text.specs.laws.Over.{over-next, over-end}
 use Rattle.text.proofs.append.put.Statement.{statement}
 use Rattle.text.proofs.append.put.Tie as tie
 

@@ -1,6 +1,6 @@
 -- `append::put_byte` meets its contract.
 -- Assumes nothing.
-use Rattle.text.specs.OverLaws.{put-one}
+use Rattle.text.specs.laws.Over.{put-one}
 use borrow.Author.Needs.{needs}
 use Rattle.text.proofs.append.put_byte.Statement.{statement}
 use Rattle.text.proofs.append.put_byte.Tie as tie

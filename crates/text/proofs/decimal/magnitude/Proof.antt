@@ -4,7 +4,7 @@ use mathlib.Core.Path.{sym, ap, _∙_}
 use native.Mathlib.Omega.{arith}
 use native.Mathlib.Numerals.{add-one}
 use lib.IntN.{natAbs}
-use Rattle.laws.specs.Sign.{Negative, negative, Plain, plain}
+use Rattle.laws.specs.laws.Sign.{Negative, negative, Plain, plain}
 use Rattle.text.proofs.decimal.magnitude.Statement.{statement}
 use Rattle.text.proofs.decimal.magnitude.Tie as tie
 

@@ -4,7 +4,7 @@ use mathlib.Core.Path.{ap}
 use borrow.Author.Needs.{needs}
 use Rattle.text.specs.Decimal.{rightOf}
 use Rattle.text.proofs.SpelledLaws.{spelled-held, spelled-self}
-use Rattle.text.specs.OverLaws.{put-as}
+use Rattle.text.specs.laws.Over.{put-as}
 use Rattle.text.proofs.decimal.put_number.Statement.{statement}
 use Rattle.text.proofs.decimal.put_number.Tie as tie
 

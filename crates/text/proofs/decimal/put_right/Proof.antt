@@ -2,9 +2,9 @@
 -- Assumes nothing.
 use native.Mathlib.Omega.{arith}
 use borrow.Author.Needs.{needs}
-use Rattle.text.specs.OverLaws.{put-as}
+use Rattle.text.specs.laws.Over.{put-as}
 use Rattle.text.proofs.SpelledLaws.{spelled-count, spelled-right}
-use Rattle.text.specs.LengthLaws.{right-length}
+use Rattle.text.specs.laws.Lengths.{right-length}
 use Rattle.text.specs.Spelled.{heldOf}
 use Rattle.text.proofs.decimal.put_right.Statement.{statement}
 use Rattle.text.proofs.decimal.put_right.Tie as tie

@@ -6,7 +6,7 @@ use mir.Syntax.{w8}
 use mir.ValLaws.{toZ-ofZ}
 use Rattle.text.specs.Decimal.{rightOf, signedOf}
 use Rattle.text.proofs.SpelledLaws.{spelled-held, spelled-self}
-use Rattle.text.specs.OverLaws.{put-as}
+use Rattle.text.specs.laws.Over.{put-as}
 use Rattle.text.proofs.decimal.put_signed.Statement.{statement}
 use Rattle.text.proofs.decimal.put_signed.Tie as tie
 

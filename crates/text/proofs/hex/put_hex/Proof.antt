@@ -5,10 +5,10 @@ use Prim.Native.Nat.{_≤_}
 use native.Mathlib.Omega.{arith}
 use borrow.Author.Needs.{needs}
 use lib.ListN.{length}
-use Rattle.text.specs.OverLaws.{put-as}
+use Rattle.text.specs.laws.Over.{put-as}
 use Rattle.text.proofs.Spelling.{Spelling, unspelled, turn, full}
 use Rattle.text.specs.Hex.{hex, hexOf}
-use Rattle.text.specs.LengthLaws.{hex-length}
+use Rattle.text.specs.laws.Lengths.{hex-length}
 use Rattle.text.proofs.hex.put_hex.Statement.{statement}
 use Rattle.text.proofs.hex.put_hex.Tie as tie
 

@@ -2,8 +2,8 @@
 -- Assumes nothing.
 use native.Mathlib.Omega.{arith}
 use lib.Ieee.{binary32, toBits}
-use Rattle.text.specs.OverLaws.{then}
-use Rattle.text.specs.LengthLaws.{hex-length}
+use Rattle.text.specs.laws.Over.{then}
+use Rattle.text.specs.laws.Lengths.{hex-length}
 use Rattle.transcript.specs.Transcript.{finishedOf}
 use borrow.Author.Needs.{needs}
 use Rattle.transcript.proofs.last.put_finished.Statement.{statement}

@@ -1,7 +1,7 @@
 -- `transcript::last::put_last` meets its contract.
 -- Assumes nothing.
-use Rattle.text.specs.OverLaws.{then, put-as}
-use Rattle.text.specs.LengthLaws.{right-none}
+use Rattle.text.specs.laws.Over.{then, put-as}
+use Rattle.text.specs.laws.Lengths.{right-none}
 use Rattle.transcript.specs.Transcript.{lastOf}
 use borrow.Author.Needs.{needs}
 use Rattle.transcript.proofs.last.put_last.Statement.{statement}

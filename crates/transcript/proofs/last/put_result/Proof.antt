@@ -4,7 +4,7 @@ use mathlib.Core.Path.{subst}
 use native.Mathlib.Omega.{arith}
 use Rattle.score.specs.Result.{Sound}
 use Rattle.transcript.specs.Transcript.{resultTextOf}
-use Rattle.transcript.specs.TranscriptLaws.{result-put}
+use Rattle.transcript.specs.laws.Transcript.{result-put}
 use borrow.Author.Needs.{needs}
 use Rattle.transcript.proofs.last.put_result.Statement.{statement}
 use Rattle.transcript.proofs.last.put_result.Tie as tie

@@ -1,7 +1,7 @@
 -- `transcript::rows::put_row` meets its contract.
 -- Assumes nothing.
 use native.Mathlib.Omega.{arith}
-use Rattle.text.specs.OverLaws.{then}
+use Rattle.text.specs.laws.Over.{then}
 use Rattle.transcript.specs.Transcript.{rowOf}
 use borrow.Author.Needs.{needs}
 use Rattle.transcript.proofs.rows.put_row.Statement.{statement}

@@ -5,11 +5,11 @@ use Prim.Native.Nat.{_+_, _*_, _-_, _≤_}
 use native.Mathlib.Omega.{arith}
 use lib.ListN.{length, drop}
 use Rattle.text.specs.Over.{over}
-use Rattle.text.specs.OverLaws.{over-none}
+use Rattle.text.specs.laws.Over.{over-none}
 use Rattle.craft_state.specs.Inside.{Given}
-use Rattle.moves.specs.MoveLaws.{plain, legal-playable, legal-keeps}
+use Rattle.moves.specs.laws.Moves.{plain, legal-playable, legal-keeps}
 use Rattle.transcript.specs.Transcript.{rowMost, rowsOf}
-use Rattle.transcript.specs.TranscriptLaws.{Played, next-known, next-legal, rest-played, rows-over, rows-count, rows-end, rows-short}
+use Rattle.transcript.specs.laws.Transcript.{Played, next-known, next-legal, rest-played, rows-over, rows-count, rows-end, rows-short}
 use Rattle.transcript.proofs.rows.put_rows.Statement.{statement}
 use Rattle.transcript.proofs.rows.put_rows.Tie as tie
 

@@ -6,13 +6,13 @@ use native.Mathlib.Omega.{arith}
 use lib.ListN.{length, take, length-take}
 use mir.Syntax.{w8}
 use mir.Val.{Fits}
-use Rattle.text.specs.OverLaws.{then, put-as}
+use Rattle.text.specs.laws.Over.{then, put-as}
 use Rattle.craft_state.specs.declared.state.CraftState.{CraftState}
 use Rattle.craft_state.specs.Inside.{Given}
-use Rattle.craft_state.specs.InsideLaws.{start-in}
-use Rattle.moves.specs.MoveLaws.{plain}
+use Rattle.craft_state.specs.laws.Inside.{start-in}
+use Rattle.moves.specs.laws.Moves.{plain}
 use Rattle.simulator.specs.Promise.{Promise}
-use Rattle.transcript.specs.TranscriptLaws.{Played, transcript-is, kept, executed-played}
+use Rattle.transcript.specs.laws.Transcript.{Played, transcript-is, kept, executed-played}
 use borrow.Author.Needs.{needs}
 use Rattle.transcript.proofs.whole.put_transcript.Statement.{statement}
 use Rattle.transcript.proofs.whole.put_transcript.Tie as tie

@@ -1,7 +1,7 @@
 -- `tree::back::check_ends` meets its contract.
 -- Assumes nothing.
 use borrow.Author.Tests.{not-true, not-false}
-use Rattle.tree.specs.PropagateLaws.{ends-unsound, ends-passed, ends-unknown}
+use Rattle.tree.specs.laws.Propagate.{ends-unsound, ends-passed, ends-unknown}
 use Rattle.tree.proofs.back.check_ends.Statement.{statement}
 use Rattle.tree.proofs.back.check_ends.Tie as tie
 

@@ -2,7 +2,7 @@
 -- Assumes nothing.
 use borrow.Author.Needs.{needs}
 use borrow.Author.Tests.{not-true, not-false}
-use Rattle.tree.specs.PropagateLaws.{way-not-above, way-bad-score, way-full, way-free}
+use Rattle.tree.specs.laws.Propagate.{way-not-above, way-bad-score, way-full, way-free}
 use Rattle.tree.proofs.back.check_way.Statement.{statement}
 use Rattle.tree.proofs.back.check_way.Tie as tie
 

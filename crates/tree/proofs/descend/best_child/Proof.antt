@@ -7,7 +7,7 @@ use Rattle.tree.specs.declared.node.Node.{Node}
 use Rattle.tree.specs.declared.best.Best.{Best}
 use Rattle.tree.specs.Best.{pickOf}
 use Rattle.tree.specs.Tree.{nodeAt, bestTo}
-use Rattle.tree.specs.SolutionLaws.{best-none, best-next}
+use Rattle.tree.specs.laws.Solution.{best-none, best-next}
 use Rattle.tree.proofs.best.Best as B
 use Rattle.walks.proofs.Walking.{_≡_, refl, ap, _∙_, ℕ, _+_, _-_, _<_, _≤_, _^_, arith, List, [], _∷_, ltb, lit<, ltb-true, ltb-false, givenOf, tables, _$_, !, lit, of-opd, bin, no-more, cited, usize′, none, has, holding, env, opd, _&_, sets, sets-last, lands-in, keeps, returns, whiles, fat, Shr, Tok, then, calls-shr, calls-plain, shr-proved}
 use Rattle.tree.proofs.Types.{node-at′}

@@ -4,9 +4,9 @@ use lib.ListN.{length, set}
 use contract.Running.{tablesOf}
 use Rattle.tree.specs.declared.node.Node.{Node}
 use Rattle.tree.specs.Tree.{isSound}
-use Rattle.tree.specs.TreeLaws.{tree-of}
+use Rattle.tree.specs.laws.Tree.{tree-of}
 use Rattle.tree.specs.Grow.{isInserted, InsertAnswer}
-use Rattle.tree.specs.GrowLaws.{inserts, inserted-room}
+use Rattle.tree.specs.laws.Grow.{inserts, inserted-room}
 use Rattle.walks.proofs.Walking.{_≡_, refl, sym, ap, _∙_, subst, ℕ, _+_, _<_, _≤_, _^_, arith, Bool, true, false, not-true, not-false, tables, _$_, !, of-opd, un, no-more, cited, opd, part, _&_, sets, lands-in, returns, guards, reborrows, then, calls-mut, calls-shared, calls-plain, mut-proved}
 use Rattle.tree.proofs.Types.{put-node′}
 use Rattle.tree.proofs.TypesGrow.{is-sound′, new′, insert-answer′, is-inserted′, insert′}

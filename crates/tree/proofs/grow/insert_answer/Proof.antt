@@ -3,7 +3,7 @@
 use mathlib.Core.Path.{refl}
 use borrow.Author.Needs.{needs}
 use borrow.Author.Tests.{not-true, not-false, lt-ltb, le-ltb}
-use Rattle.refusal.specs.JudgeLaws.{stopped, onward, answered, fails, holds}
+use Rattle.refusal.specs.laws.Judge.{stopped, onward, answered, fails, holds}
 use Rattle.tree.proofs.grow.insert_answer.Statement.{statement}
 use Rattle.tree.proofs.grow.insert_answer.Tie as tie
 

@@ -7,10 +7,10 @@ use Rattle.refusal.proofs.Refusal as F
 use Rattle.refusal.proofs.Refusal.Laws as F′
 use Rattle.refusal.specs.declared.Refusal.{Refusal}
 use Rattle.refusal.specs.declared.Refusal.the-variants.{UnsoundTree, UnknownNode}
-use Rattle.refusal.specs.JudgeLaws.{answered, fails, holds}
+use Rattle.refusal.specs.laws.Judge.{answered, fails, holds}
 use Rattle.tree.specs.declared.grow.Recorded.the-variants.{Record, Refused}
 use Rattle.tree.specs.Tree.{isSound}
-use Rattle.tree.specs.TreeLaws.{tree-of}
+use Rattle.tree.specs.laws.Tree.{tree-of}
 use Rattle.tree.proofs.grow.Recorded as R
 use Rattle.tree.proofs.grow.Recorded.Laws as R′
 use Rattle.walks.proofs.Values.{enum-is}

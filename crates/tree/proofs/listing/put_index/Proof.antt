@@ -1,7 +1,7 @@
 -- `tree::listing::put_index` meets its contract.
 -- Assumes nothing.
 use borrow.Author.Needs.{needs}
-use Rattle.text.specs.OverLaws.{put-one}
+use Rattle.text.specs.laws.Over.{put-one}
 use Rattle.tree.proofs.listing.put_index.Statement.{statement}
 use Rattle.tree.proofs.listing.put_index.Tie as tie
 

@@ -5,11 +5,11 @@ use native.Mathlib.Nat.{le-antisymm}
 use native.Mathlib.Numerals.{add-one}
 use lib.ListN.{length}
 use contract.Running.{tablesOf}
-use Rattle.laws.specs.Tests.{both}
+use Rattle.laws.specs.laws.Tests.{both}
 use Rattle.tree.specs.declared.node.Node.{Node}
 use Rattle.tree.specs.Sound.{soundAt}
 use Rattle.tree.specs.Tree.{nodeAt, soundTo, isSound}
-use Rattle.tree.specs.TreeLaws.{sound-each}
+use Rattle.tree.specs.laws.Tree.{sound-each}
 use Rattle.walks.proofs.Walking.{_≡_, refl, sym, ap, _∙_, ℕ, _+_, _-_, _<_, _≤_, _^_, arith, Bool, true, false, List, [], _∷_, ltb, leb, lit<, ltb-true, ltb-false, leb-true, not-true, not-false, tables, _$_, !, lit, true-lit, false-lit, of-opd, bin, un, no-more, cited, usize′, bool′, none, has, holding, env, opd, part, _&_, sets, sets-last, lands-in, keeps, returns, guards, whiles, fat, Shr, Tok, then, calls-shr, calls-plain, shr-proved}
 use Rattle.tree.proofs.Types.{node-at′}
 use Rattle.tree.proofs.TypesGrow.{is-counted′, is-sound-at′, is-sound′}

@@ -4,11 +4,11 @@ use mathlib.Core.Path.{_≡_, sym, subst}
 use mathlib.Core.Bool.{Bool, true, false, _&&_}
 use lib.Dec.{T, lit<, le→leb}
 use lib.Ieee.{Float, le, ofInt, ofBits, inFloat}
-use Rattle.laws.specs.Small.{Small, below-pow, truncated-small}
-use Rattle.laws.specs.Tests.{and-left}
+use Rattle.laws.specs.laws.Small.{Small, below-pow, truncated-small}
+use Rattle.laws.specs.laws.Tests.{and-left}
 use Rattle.tree.specs.Node.{plusZero, visitsMost, countMost}
 use Rattle.tree.specs.Sound.{isCount}
-use Rattle.tree.specs.FloatLaws.{zero-above, count-small}
+use Rattle.tree.specs.laws.Float.{zero-above, count-small}
 use Rattle.tree.proofs.soundness.is_count.Statement.{statement}
 use Rattle.tree.proofs.soundness.is_count.Tie as tie
 

@@ -4,9 +4,9 @@ use mathlib.Core.Path.{sym, subst, _∙_}
 use mathlib.Core.Bool.{not}
 use lib.Dec.{T}
 use lib.Ieee.{isNan}
-use Rattle.laws.specs.NoNan.{small-no-nan}
+use Rattle.laws.specs.laws.NoNan.{small-no-nan}
 use Rattle.tree.specs.Sound.{isMaximum}
-use Rattle.tree.specs.FloatLaws.{one-small, bits-sign}
+use Rattle.tree.specs.laws.Float.{one-small, bits-sign}
 use Rattle.tree.proofs.soundness.is_maximum.Statement.{statement}
 use Rattle.tree.proofs.soundness.is_maximum.Tie as tie
 

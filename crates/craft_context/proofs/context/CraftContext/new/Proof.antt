@@ -4,10 +4,10 @@ use mathlib.Core.Path.{_≡_, refl, ap, _∙_}
 use mathlib.Core.List.{List, []}
 use borrow.Author.Needs.{needs}
 use Rattle.refusal.specs.Judge.{Test, checksOf}
-use Rattle.refusal.specs.JudgeLaws.{stopped-by, onward-by, answered}
+use Rattle.refusal.specs.laws.Judge.{stopped-by, onward-by, answered}
 use Rattle.craft_context.specs.Limits.{buildTests, contextTests}
 use Rattle.craft_context.specs.Build.{contextOf}
-use Rattle.craft_context.specs.BuildLaws.{buildable}
+use Rattle.craft_context.specs.laws.Build.{buildable}
 use Rattle.craft_context.specs.declared.context.CraftContext.{CraftContext}
 use Rattle.craft_context.specs.declared.build.Built.the-variants.{Context}
 use Rattle.craft_context.proofs.context.CraftContext.new.Statement.{statement}

@@ -3,7 +3,7 @@
 use mathlib.Core.List.{[], _∷_}
 use mathlib.Core.Path.{sym, _∙_}
 use borrow.Author.Needs.{needs}
-use Rattle.refusal.specs.JudgeLaws.{checks-stop-by, checks-on-by, alone}
+use Rattle.refusal.specs.laws.Judge.{checks-stop-by, checks-on-by, alone}
 use Rattle.craft_context.specs.Limits.{contextTests}
 use Rattle.craft_state.specs.Limits.{stateTest}
 use Rattle.craft_state.proofs.state.CraftState.check.Statement.{statement}

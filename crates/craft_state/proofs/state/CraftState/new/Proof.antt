@@ -3,7 +3,7 @@
 use mathlib.Core.Path.{refl, ap}
 use mathlib.Core.List.{[]}
 use borrow.Author.Needs.{needs}
-use Rattle.refusal.specs.JudgeLaws.{stopped-by, onward-by, answered}
+use Rattle.refusal.specs.laws.Judge.{stopped-by, onward-by, answered}
 use Rattle.craft_context.specs.Limits.{contextTests}
 use Rattle.craft_state.specs.declared.state.Started.the-variants.{At}
 use Rattle.craft_state.proofs.state.CraftState.new.Statement.{statement}

@@ -1,0 +1,5 @@
+pub mod Known
+pub mod Gain
+pub mod Bounds
+pub mod Names
+pub mod Worked

@@ -1,0 +1,91 @@
+-- Laws of what the reader answers: how its tests go, and what the answer tells a caller.
+-- Assumes nothing.
+use mathlib.Core.Path.{_≡_, refl, sym, ap, subst, _∙_}
+use mathlib.Core.Bool.{Bool, true, false}
+use mathlib.Core.List.{List}
+use Prim.Native.Nat.{ℕ, _≤_}
+use native.Mathlib.Omega.{arith}
+use Rattle.refusal.specs.declared.Refusal.{Refusal}
+use Rattle.refusal.specs.declared.Refusal.the-variants.{MalformedLine}
+use Rattle.refusal.specs.declared.Checked.{Checked}
+use Rattle.refusal.specs.declared.Checked.the-variants.{Passed, Refused}
+use Rattle.refusal.specs.Judge.{Test, checkedOf, checksOf, Says}
+use Rattle.refusal.specs.laws.Judge.{judged-passed, judged-refused, shown}
+use Rattle.craft_context.specs.declared.context.CraftContext.{CraftContext}
+use Rattle.craft_context.specs.Limits.{contextTests, ContextIn}
+use Rattle.craft_context.specs.laws.Limits.{context-in}
+use Rattle.context_line.specs.Shape.{others, lineShaped, numbersOf, readOf, lineTest}
+use Rattle.context_line.specs.Fields.{byteMost, Fitting, fitsTest, contextOf, numberTests}
+use Rattle.context_line.specs.laws.Fields.{at-most}
+use Rattle.context_line.specs.laws.Shape.{values-length}
+use Rattle.context_line.specs.Read.{read, lineTests}
+use Rattle.context_line.specs.declared.line.Numbers.{Numbers}
+use Rattle.context_line.specs.declared.fields.Read.{Read}
+use Rattle.context_line.specs.declared.fields.Read.the-variants as R
+
+-- ---- what the code reads a line into, and refusal 12
+
+module _ (line : List ℕ) {r : Numbers} (e : r ≡ readOf line) where
+  read-shape : {t : Bool} → r .shaped ≡ t → lineShaped line ≡ t
+  read-shape s = sym (ap (λ (n : Numbers). n .shaped) e) ∙ s
+
+  pub read-malformed : r .shaped ≡ false → Refused MalformedLine ≡ checkedOf (lineTest line)
+  read-malformed s = rw (read-shape s)
+
+  pub read-passed : r .shaped ≡ true → Passed ≡ checkedOf (lineTest line)
+  read-passed s = rw (read-shape s)
+
+  pub read-numbers : r .shaped ≡ true → r .values ≡ numbersOf line
+  read-numbers s = ap (λ (n : Numbers). n .values) e ∙ rw (read-shape s)
+
+-- ---- what the answer tells a caller
+
+module _ {tests : List Test} {context : CraftContext} where
+  -- the answer goes by what the tests answer
+  module _ {r : Read} (s : Says read tests (R.Context context) r) where
+    when-passed : Passed ≡ checksOf tests → r ≡ R.Context context
+    when-passed p = s .same ∙ sym (judged-passed R.Refused (R.Context context) tests p)
+
+    when-refused : {x : Refusal} → Refused x ≡ checksOf tests → r ≡ R.Refused x
+    when-refused f = s .same ∙ sym (judged-refused R.Refused (R.Context context) tests f)
+
+  -- a context is the one that was meant, and every test passed
+  pub read-context : {c : CraftContext} → Says read tests (R.Context context) (R.Context c) → (c ≡ context) × (Passed ≡ checksOf tests)
+  read-context {c} s = by (checksOf tests) refl
+    where
+      by : (k : Checked) → k ≡ checksOf tests → (c ≡ context) × (Passed ≡ checksOf tests)
+      by Passed e = let same = when-passed s e in (cc, e)
+      by (Refused x) e = let other = when-refused s e in let z : _≡_ {A = ℕ} 0 1 = cc in absurd (omega arith)
+
+  -- a refusal is that of the first test that failed
+  pub read-refused : {x : Refusal} → Says read tests (R.Context context) (R.Refused x) → Refused x ≡ checksOf tests
+  read-refused {x} s = by (checksOf tests) refl
+    where
+      by : (k : Checked) → k ≡ checksOf tests → Refused x ≡ checksOf tests
+      by Passed e = let other = when-passed s e in let z : _≡_ {A = ℕ} 0 1 = cc in absurd (omega arith)
+      by (Refused y) e = let other = when-refused s e in let same : x ≡ y = cc in ap Refused same ∙ e
+
+-- ---- what tests that passed have shown
+
+pub passed-inside : (values : List ℕ) → Passed ≡ checksOf (numberTests values) → ContextIn (contextOf values)
+passed-inside values p = context-in (contextOf values) (shown (fitsTest values) (contextTests (contextOf values)) p refl .1) refl
+
+-- of a whole line: its context is inside the limits, and its step_max is a byte
+pub line-passed : (line : List ℕ) → Passed ≡ checksOf (lineTests line) → ContextIn (contextOf (numbersOf line)) × (contextOf (numbersOf line) .«step_max» ≤ byteMost)
+unfolding contextOf
+line-passed line p =
+    let values = numbersOf line in
+    let q = shown (lineTest line) (numberTests values) p refl .1 in
+    let f : Fitting values = record { count = values-length others line; fits = shown (fitsTest values) (contextTests (contextOf values)) q refl .0 } in
+    (passed-inside values q, at-most f 4 (omega arith) .1)
+
+-- and so is the context of an answer
+module _ {c : CraftContext} where
+  inside : (values : List ℕ) → c ≡ contextOf values → ContextIn (contextOf values) → ContextIn c
+  inside values e i = subst (λ (x : CraftContext). ContextIn x) (sym e) i
+
+  pub numbers-inside : (values : List ℕ) → Says read (numberTests values) (R.Context (contextOf values)) (R.Context c) → ContextIn c
+  numbers-inside values s = let e = read-context s in inside values (e .0) (passed-inside values (e .1))
+
+  pub line-inside : (line : List ℕ) → Says read (lineTests line) (R.Context (contextOf (numbersOf line))) (R.Context c) → ContextIn c
+  line-inside line s = let e = read-context s in inside (numbersOf line) (e .0) (line-passed line (e .1) .0)

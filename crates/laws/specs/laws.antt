@@ -1,0 +1,12 @@
+pub mod Tests
+pub mod Same
+pub mod Lists
+pub mod Front
+pub mod Arms
+pub mod Bits
+pub mod Walk
+pub mod Sign
+pub mod Raise
+pub mod Plus
+pub mod Small
+pub mod NoNan

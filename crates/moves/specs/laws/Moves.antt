@@ -1,0 +1,188 @@
+-- Laws of the moves: which candidates are among them, what that gives to the step, and that strict moves are a part of the plain ones.
+-- Assumes nothing.
+use mathlib.Core.Path.{_≡_, refl, sym, _∙_, subst}
+use mathlib.Core.Bool.{Bool, true, false, cond, not, _&&_}
+use Prim.Native.Nat.{ℕ, _+_, _≤_, _<_, zero-le}
+use native.Mathlib.Nat.{le-trans}
+use native.Mathlib.Omega.{arith}
+use borrow.Author.Tests.{leb-true, leb-false, ltb-true, eqb-true, not-true}
+use lib.Dec.{eqb, leb, ltb}
+use lib.IntN.{pos}
+use lib.Pow.{pow-pos}
+use lib.Signed.{leZ}
+use Rattle.laws.specs.laws.Tests.{both, and-both, neither}
+use Rattle.laws.specs.Bits.{has}
+use Rattle.laws.specs.laws.Bits.{has-high, has-keep}
+use Rattle.laws.specs.laws.Raise.{raise, gt-raise}
+use Rattle.action.specs.Actions as A
+use Rattle.action.specs.Known.{actions}
+use Rattle.action.specs.Bounds.{RowBounds}
+use Rattle.action.specs.laws.Bounds.{rows-bounded, price-at-most}
+use Rattle.action.specs.Table.{attributesOf}
+use Rattle.action.specs.Price.{chargeOf}
+use Rattle.action.specs.declared.table.Amount.{Amount}
+use Rattle.action.specs.declared.table.Amount.the-variants.{Of, Nothing}
+use Rattle.action.specs.declared.table.Attributes.{Attributes}
+use Rattle.action_set.specs.Set.{keepOf}
+use Rattle.craft_context.specs.declared.context.CraftContext.{CraftContext}
+use Rattle.craft_state.specs.declared.state.CraftState.{CraftState}
+use Rattle.craft_state.specs.Limits.{stepLeast, stateInside}
+use Rattle.craft_state.specs.Inside.{Given}
+use Rattle.craft_state.specs.laws.Inside.{in-state}
+use Rattle.step.specs.Asked.{Where, Payable, Playable}
+use Rattle.step.specs.Step.{executeOf}
+use Rattle.step.specs.laws.Step.{execute-in, execute-pays}
+use Rattle.moves.specs.Rules.{affords, mayImprove, eyeAlone, outsideMemory, outsideVeneration, afterObserve, mayProgress, ownRule, strictRule}
+use Rattle.moves.specs.Moves.{strictlyOf, allowedOf, allowsOf, passesOf, ended, movesOf}
+use Rattle.moves.specs.declared.mode.Mode.{Mode}
+
+-- ---- the set
+
+module _ (c : CraftContext) (s : CraftState) (mode : Mode) where
+  pub moves-ended : ended c s ≡ true → movesOf c s mode ≡ 0
+  unfolding movesOf
+  moves-ended e = rw e
+
+  pub moves-on : ended c s ≡ false → movesOf c s mode ≡ keepOf (allowsOf c s mode) (c .«action_pool» .0)
+  unfolding movesOf
+  moves-on e = rw e
+
+  -- THE law of membership: the state has not ended, the pool has the candidate, and it passes the test
+  pub has-moves : (n : ℕ) → n < actions → has (movesOf c s mode) n ≡ not (ended c s) && passesOf c s mode n
+  unfolding movesOf
+  has-moves n h = by (ended c s)
+    where
+      by : (t : Bool) → has (cond t 0 (keepOf (allowsOf c s mode) (c .«action_pool» .0))) n ≡ not t && (has (c .«action_pool» .0) n && allowsOf c s mode n)
+      by true = has-high 0 n (pow-pos n)
+      by false = has-keep actions (c .«action_pool» .0) (allowsOf c s mode) n h
+
+-- ---- strict mode asks for all that an action's own rule asks
+
+module _ (c : CraftContext) (s : CraftState) (n : ℕ) (row : Attributes) where
+  -- TrainedEye alone, at the first step of a craft that is not expert: its own rule holds
+  eye-own : eyeAlone c s ≡ true → n ≡ A.TrainedEye → ownRule c s n row ≡ true
+  unfolding ownRule
+  eye-own e k =
+      let first = both (eqb (s .step) stepLeast && ltb 0 (c .«quality_target») && not (c .«is_expert»)) (has (c .«action_pool» .0) A.TrainedEye) e .0 in
+      let second = both (eqb (s .step) stepLeast && ltb 0 (c .«quality_target»)) (not (c .«is_expert»)) first in
+      simp (k, both (eqb (s .step) stepLeast) (ltb 0 (c .«quality_target»)) (second .0) .0, second .1)
+
+  strictly-own : strictlyOf c s n row ≡ true → ownRule c s n row ≡ true
+  unfolding strictlyOf
+  strictly-own = by (eyeAlone c s) (λ e t. eye-own e (eqb-true n A.TrainedEye t))
+    where
+      rules : Bool
+      rules =
+          outsideMemory c s (row .«quality_efficiency») && outsideVeneration s (row .«progress_efficiency») (row .«quality_efficiency») && afterObserve s n && mayProgress c s (row .«progress_efficiency») (row .«quality_efficiency»)
+
+      by : (b : Bool) → (b ≡ true → eqb n A.TrainedEye ≡ true → ownRule c s n row ≡ true) → cond b (eqb n A.TrainedEye) (rules && ownRule c s n row && strictRule c s n) ≡ true → ownRule c s n row ≡ true
+      by true f t = f refl t
+      by false f t = both rules (ownRule c s n row) (both (rules && ownRule c s n row) (strictRule c s n) t .0) .1
+
+-- ---- what a legal candidate rests on, by any row
+
+affords-payable : (s : CraftState) (n : ℕ) (row : Attributes) → RowBounds n row → affords s n (row .«cp_cost») ≡ true → Payable (s .cp) (s .«previous_combo_action») n (row .«cp_cost»)
+affords-payable s n row bounds = by (row .«cp_cost») refl
+  where
+    by : (cost : Amount) → row .«cp_cost» ≡ cost → affords s n cost ≡ true → Payable (s .cp) (s .«previous_combo_action») n cost
+    by (Of cost) e t = le-trans (price-at-most bounds e (s .«previous_combo_action»)) (leb-true cost (s .cp) t)
+    by Nothing e t = tt
+
+improve-where : (c : CraftContext) (s : CraftState) (quality : Amount) → mayImprove c s quality ≡ true → Where quality (s .quality < c .«quality_target»)
+improve-where c s (Of efficiency) t = ltb-true (s .quality) (c .«quality_target») t
+improve-where c s Nothing t = tt
+
+-- a state that has not ended
+pub record Going (c : CraftContext) (s : CraftState) : Type 0 where
+  pub below : s .progress < c .«progress_target»
+  pub early : s .step < c .«step_max»
+  pub alive : raise (pos 0) < raise (s .durability)
+
+pub going : (c : CraftContext) (s : CraftState) → Given c s → ended c s ≡ false → Going c s
+going c s g e =
+    let last = neither _ (leZ (s .durability) (pos 0)) e in
+    let first = neither (leb (c .«progress_target») (s .progress)) (leb (c .«step_max») (s .step)) (last .0) in
+    record { below = leb-false _ _ (first .0); early = leb-false _ _ (first .1); alive = gt-raise (s .durability) (pos 0) (last .1) (omega (arith, g .state .room .from)) }
+
+module _ (c : CraftContext) (s : CraftState) (mode : Mode) (n : ℕ) (row : Attributes) where
+  -- the price test and the test of quality stand before all others
+  allowed-parts : allowedOf c s mode n row ≡ true → (affords s n (row .«cp_cost») ≡ true) × (mayImprove c s (row .«quality_efficiency») ≡ true)
+  unfolding allowedOf
+  allowed-parts t = both (affords s n (row .«cp_cost»)) (mayImprove c s (row .«quality_efficiency»)) (both (affords s n (row .«cp_cost») && mayImprove c s (row .«quality_efficiency»)) (cond (mode .strict) (strictlyOf c s n row) (ownRule c s n row)) t .0)
+
+  pub allowed-playable : RowBounds n row → Given c s → n < actions → Going c s → allowedOf c s mode n row ≡ true → Playable c s n row
+  allowed-playable bounds g h k t =
+      let parts = allowed-parts t in
+      record {
+        given = g;
+        known = h;
+        below = k .below;
+        early = k .early;
+        alive = k .alive;
+        quality = improve-where c s (row .«quality_efficiency») (parts .1);
+        payable = affords-payable s n row bounds (parts .0);
+      }
+
+  -- ---- each passes its own rule, in either mode
+
+  pub allowed-own : allowedOf c s mode n row ≡ true → ownRule c s n row ≡ true
+  unfolding allowedOf
+  allowed-own t = by (mode .strict) (both (affords s n (row .«cp_cost») && mayImprove c s (row .«quality_efficiency»)) (cond (mode .strict) (strictlyOf c s n row) (ownRule c s n row)) t .1)
+    where
+      by : (b : Bool) → cond b (strictlyOf c s n row) (ownRule c s n row) ≡ true → ownRule c s n row ≡ true
+      by true t = strictly-own c s n row t
+      by false t = t
+
+-- ---- by the table's row: what is among the moves may be executed, and its price is at most the points
+
+module _ (c : CraftContext) (s : CraftState) (mode : Mode) (n : ℕ) (g : Given c s) (h : n < actions) (t : has (movesOf c s mode) n ≡ true) where
+  pub legal-playable : Playable c s n (attributesOf n)
+  legal-playable =
+      let parts = both (not (ended c s)) (passesOf c s mode n) (sym (has-moves c s mode n h) ∙ t) in
+      allowed-playable c s mode n (attributesOf n) (rows-bounded n h) g h (going c s g (not-true (ended c s) (parts .0))) (both (has (c .«action_pool» .0) n) (allowsOf c s mode n) (parts .1) .1)
+
+  pub legal-affordable : chargeOf n (s .«previous_combo_action») (attributesOf n .«cp_cost») ≤ s .cp
+  legal-affordable = by (attributesOf n .«cp_cost») (legal-playable .payable)
+    where
+      by : (cost : Amount) → Payable (s .cp) (s .«previous_combo_action») n cost → chargeOf n (s .«previous_combo_action») cost ≤ s .cp
+      by (Of cost) p = p
+      by Nothing p = zero-le
+
+  -- QuickInnovation while it is left
+  pub legal-quick : n ≡ A.QuickInnovation → s .«quick_innovation_available» ≡ true
+  unfolding ownRule
+  legal-quick e =
+      let parts = both (not (ended c s)) (passesOf c s mode n) (sym (has-moves c s mode n h) ∙ t) in
+      let own = allowed-own c s mode n (attributesOf n) (both (has (c .«action_pool» .0) n) (allowsOf c s mode n) (parts .1) .1) in
+      both (s .«quick_innovation_available») (eqb (s .buffs .innovation) 0) (subst (λ (m : ℕ). ownRule c s m (attributesOf n) ≡ true) e own) .0
+
+  pub legal-keeps : Given c (executeOf c s n)
+  legal-keeps = execute-in c s n (attributesOf n) (rows-bounded n h) legal-playable
+
+  -- so the next state passes the tests of refusal 2
+  pub legal-inside : stateInside c (executeOf c s n) ≡ true
+  legal-inside = in-state c (executeOf c s n) (legal-keeps .state)
+
+  pub legal-pays : executeOf c s n .cp + chargeOf n (s .«previous_combo_action») (attributesOf n .«cp_cost») ≡ s .cp
+  legal-pays = execute-pays c s n (attributesOf n) (rows-bounded n h) legal-playable
+
+-- ---- strict moves are a part of the plain ones
+
+abbrev pub plain : Mode
+plain = record { strict = false }
+
+abbrev pub strict : Mode
+strict = record { strict = true }
+
+module _ (c : CraftContext) (s : CraftState) (n : ℕ) (row : Attributes) where
+  pub strict-allowed : allowedOf c s strict n row ≡ true → allowedOf c s plain n row ≡ true
+  unfolding allowedOf
+  strict-allowed t =
+      let parts = both (affords s n (row .«cp_cost») && mayImprove c s (row .«quality_efficiency»)) (strictlyOf c s n row) t in
+      and-both (parts .0) (strictly-own c s n row (parts .1))
+
+pub strict-part : (c : CraftContext) (s : CraftState) (n : ℕ) → n < actions → has (movesOf c s strict) n ≡ true → has (movesOf c s plain) n ≡ true
+strict-part c s n h t =
+    let parts = both (not (ended c s)) (passesOf c s strict n) (sym (has-moves c s strict n h) ∙ t) in
+    let tests = both (has (c .«action_pool» .0) n) (allowsOf c s strict n) (parts .1) in
+    has-moves c s plain n h ∙ and-both (parts .0) (and-both (tests .0) (strict-allowed c s n (attributesOf n) (tests .1)))

@@ -1,0 +1,9 @@
+pub mod Words
+pub mod Next
+pub mod Walk
+pub mod First
+pub mod Count
+pub mod Lines
+pub mod Seconds
+pub mod Round
+pub mod Worked

@@ -1,0 +1,4 @@
+pub mod Replay
+pub mod Alone
+pub mod Promise
+pub mod Bench

@@ -1,0 +1,208 @@
+-- Demand 3, shown of every replay. The table is met only through `RowBounds`, in the laws of moves and step.
+-- Assumes nothing.
+use mathlib.Core.Path.{_≡_, refl, sym, ap, _∙_, subst}
+use mathlib.Core.Bool.{Bool, true, false, cond, not}
+use mathlib.Core.List.{List, [], _∷_}
+use Prim.Native.Nat.{ℕ, zero, suc, _+_, _≤_, _<_, zero-le}
+use native.Mathlib.Nat.{le-trans, le-refl, le-of-eq, le-antisymm, add-zero, zero-add, le-of-suc-le-suc, not-suc-le-zero, min-eq-left}
+use native.Mathlib.Omega.{arith}
+use lib.Dec.{eqb, ltb, lit≤}
+use lib.ListN.{length, take, length-take}
+use borrow.Author.Tests.{ltb-true, eqb-true, not-true}
+use Rattle.laws.specs.laws.Tests.{both, and-true, and-false, true-false}
+use Rattle.laws.specs.Bits.{has}
+use Rattle.action.specs.Actions as A
+use Rattle.action.specs.Known.{actions, knownFront}
+use Rattle.action.specs.Table.{attributesOf}
+use Rattle.craft_context.specs.declared.context.CraftContext.{CraftContext}
+use Rattle.craft_context.specs.Limits.{ContextIn}
+use Rattle.craft_state.specs.declared.state.CraftState.{CraftState}
+use Rattle.craft_state.specs.declared.state.Last.the-variants as L
+use Rattle.craft_state.specs.Limits.{stepLeast, stepMost}
+use Rattle.craft_state.specs.Inside.{Given}
+use Rattle.craft_state.specs.laws.Inside.{start-in}
+use Rattle.craft_state.specs.Start.{startOf}
+use Rattle.step.specs.Step.{executeOf}
+use Rattle.step.specs.laws.Step.{execute-step, execute-quick}
+use Rattle.moves.specs.declared.mode.Mode.{Mode}
+use Rattle.moves.specs.Moves.{passesOf, ended, movesOf}
+use Rattle.moves.specs.laws.Moves.{has-moves, legal-playable, legal-quick, legal-keeps, legal-pays}
+use Rattle.score.specs.Result.{resultOf}
+use Rattle.simulator.specs.declared.replay.Replay.{Replay}
+use Rattle.simulator.specs.Replay.{goesOn, stopOf, slipOf, replayFrom, replayOf}
+use Rattle.simulator.specs.laws.Replay.{replay-on}
+use Rattle.simulator.specs.Alone.{stepsIn}
+use Rattle.simulator.specs.laws.Alone.{prices-charged}
+use Rattle.simulator.specs.Promise.{after, EachLegal, chargesOf, AfterFirst, Longest, Promise}
+
+-- ---- known actions
+
+abbrev pub AllKnown : List ℕ → Type 0
+AllKnown [] = Unit {0}
+AllKnown (n ∷ rest) = (n < actions) × AllKnown rest
+
+pub all-known : (list : List ℕ) → length list ≤ knownFront list → AllKnown list
+unfolding knownFront
+all-known [] h = tt
+all-known (n ∷ rest) h = by (ltb n actions) (ltb-true n actions) (all-known rest) h
+  where
+    by : (b : Bool) → (b ≡ true → n < actions) → (length rest ≤ knownFront rest → AllKnown rest) → suc (length rest) ≤ cond b (suc (knownFront rest)) 0 → AllKnown (n ∷ rest)
+    by true f later h = (f refl, later (le-of-suc-le-suc h))
+    by false f later h = absurd (not-suc-le-zero h)
+
+pub take-known : (list : List ℕ) (k : ℕ) → AllKnown list → AllKnown (take k list)
+take-known [] zero h = tt
+take-known [] (suc k) h = tt
+take-known (n ∷ rest) zero h = tt
+take-known (n ∷ rest) (suc k) h = (h .0, take-known rest k (h .1))
+
+module _ (c : CraftContext) (mode : Mode) where
+  -- ---- a leading part of what is legal is legal
+
+  part-legal : (s : CraftState) (list : List ℕ) (k e : ℕ) → k ≤ e → EachLegal c mode s (take e list) → EachLegal c mode s (take k list)
+  unfolding EachLegal
+  part-legal s list zero e h l = tt
+  part-legal s list (suc k) zero h l = absurd (not-suc-le-zero h)
+  part-legal s [] (suc k) (suc e) h l = tt
+  part-legal s (n ∷ rest) (suc k) (suc e) h l = (l .0, part-legal (executeOf c s n) rest k e (le-of-suc-le-suc h) (l .1))
+
+  -- ---- along a list whose actions are each legal where they stand
+
+  along-inside : (s : CraftState) (list : List ℕ) → Given c s → AllKnown list → EachLegal c mode s list → Given c (after c s list)
+  unfolding EachLegal after
+  along-inside s [] g h l = g
+  along-inside s (n ∷ rest) g h l = along-inside (executeOf c s n) rest (legal-keeps c s mode n g (h .0) (l .0)) (h .1) (l .1)
+
+  along-points : (s : CraftState) (list : List ℕ) → Given c s → AllKnown list → EachLegal c mode s list → after c s list .cp + chargesOf c s list ≡ s .cp
+  unfolding EachLegal after chargesOf
+  along-points s [] g h l = add-zero (s .cp)
+  along-points s (n ∷ rest) g h l =
+      omega (arith, along-points (executeOf c s n) rest (legal-keeps c s mode n g (h .0) (l .0)) (h .1) (l .1), legal-pays c s mode n g (h .0) (l .0))
+
+  along-step : (s : CraftState) (list : List ℕ) → after c s list .step ≡ s .step + stepsIn list
+  unfolding after stepsIn
+  along-step s [] = sym (add-zero (s .step))
+  along-step s (n ∷ rest) = along-step (executeOf c s n) rest ∙ rw (execute-step c s n (attributesOf n)) (by (eqb n A.QuickInnovation))
+    where
+      by : (t : Bool) → cond t (s .step) (s .step + 1) + stepsIn rest ≡ s .step + (cond t 0 1 + stepsIn rest)
+      by true = omega arith
+      by false = omega arith
+
+  -- each raises the step, which is below step_max, but for QuickInnovation, which goes once
+  abbrev quickLeft : CraftState → ℕ
+  quickLeft s = cond (s .«quick_innovation_available») 1 0
+
+  along-few : c .«step_max» ≤ stepMost → (s : CraftState) (list : List ℕ) → s .step ≤ stepMost → Given c s → AllKnown list → EachLegal c mode s list → length list + s .step ≤ stepMost + quickLeft s
+  unfolding EachLegal
+  along-few top s [] b g h l = omega arith
+  along-few top s (n ∷ rest) b given h l =
+      by (eqb n A.QuickInnovation) refl (λ b. along-few top (executeOf c s n) rest b (legal-keeps c s mode n given (h .0) (l .0)) (h .1) (l .1)) (legal-playable c s mode n given (h .0) (l .0) .early)
+    where
+      Later : Type 0
+      Later = executeOf c s n .step ≤ stepMost → length rest + executeOf c s n .step ≤ stepMost + quickLeft (executeOf c s n)
+
+      left : {b : Bool} (t : CraftState) → t .«quick_innovation_available» ≡ b → quickLeft t ≡ cond b 1 0
+      left t e = rw e
+
+      by : (t : Bool) → eqb n A.QuickInnovation ≡ t → Later → s .step < c .«step_max» → suc (length rest) + s .step ≤ stepMost + quickLeft s
+      by true e later early =
+          let same : executeOf c s n .step ≡ s .step = execute-step c s n (attributesOf n) ∙ rw e in
+          let before = left {b = true} s (legal-quick c s mode n given (h .0) (l .0) (eqb-true n A.QuickInnovation e)) in
+          let gone = left {b = false} (executeOf c s n) (execute-quick c s n (attributesOf n) ∙ rw e (and-false (s .«quick_innovation_available»))) in
+          omega (arith, later (omega arith))
+      by false e later early =
+          let more : executeOf c s n .step ≡ s .step + 1 = execute-step c s n (attributesOf n) ∙ rw e in
+          let same : executeOf c s n .«quick_innovation_available» ≡ s .«quick_innovation_available» = execute-quick c s n (attributesOf n) ∙ rw e (and-true (s .«quick_innovation_available»)) in
+          let kept : quickLeft (executeOf c s n) ≡ quickLeft s = ap (λ (b : Bool). cond b 1 0) same in
+          omega (arith, later (omega arith))
+
+  -- ---- the executed part
+
+  lead : CraftState → List ℕ → ℕ
+  lead s [] = 0
+  lead s (n ∷ rest) = cond (has (movesOf c s mode) n) (suc (lead (executeOf c s n) rest)) 0
+
+  record Run (s : CraftState) (k : ℕ) (list : List ℕ) (e : ℕ) : Type 0 where
+    executed : replayFrom c mode s k list .executed ≡ k + e
+    state : replayFrom c mode s k list .state ≡ after c s (take e list)
+    part : e ≤ length list
+    legal : EachLegal c mode s (take e list)
+    longest : (j : ℕ) → j ≤ length list → EachLegal c mode s (take j list) → j ≤ e
+
+  run : (s : CraftState) (k : ℕ) (list : List ℕ) → AllKnown list → Run s k list (lead s list)
+  unfolding lead replayFrom stopOf slipOf after EachLegal
+  run s k [] h = record { executed = sym (add-zero k); state = refl; part = le-refl 0; legal = tt; longest = λ j p l. p }
+  run s k (n ∷ rest) h = by (has (movesOf c s mode) n) refl (run (executeOf c s n) (k + 1) rest (h .1))
+    where
+      by : (b : Bool) → has (movesOf c s mode) n ≡ b → Run (executeOf c s n) (k + 1) rest (lead (executeOf c s n) rest) → Run s k (n ∷ rest) (cond b (suc (lead (executeOf c s n) rest)) 0)
+      by true t r =
+          let parts = both (not (ended c s)) (passesOf c s mode n) (sym (has-moves c s mode n (h .0)) ∙ t) in
+          let on = replay-on c mode s n (h .0) k rest (not-true (ended c s) (parts .0)) (parts .1) in
+          record {
+            executed = ap (λ (x : Replay). x .executed) on ∙ omega (arith, r .executed);
+            state = ap (λ (x : Replay). x .state) on ∙ r .state;
+            part = omega (arith, r .part);
+            legal = (t, r .legal);
+            longest = longer;
+          }
+        where
+          longer : (j : ℕ) → j ≤ suc (length rest) → EachLegal c mode s (take j (n ∷ rest)) → j ≤ suc (lead (executeOf c s n) rest)
+          longer zero p l = zero-le
+          longer (suc j) p l = omega (arith, r .longest j (le-of-suc-le-suc p) (l .1))
+      by false t r =
+          let here = stays (goesOn (resultOf c s mode)) in
+          record { executed = rw t (here .0); state = rw t (here .1); part = zero-le; legal = tt; longest = none }
+        where
+          stays : (g : Bool) → (cond g (slipOf c mode s k) (stopOf c mode s k) .executed ≡ k + 0) × (cond g (slipOf c mode s k) (stopOf c mode s k) .state ≡ s)
+          stays true = (sym (add-zero k), refl)
+          stays false = (sym (add-zero k), refl)
+
+          none : (j : ℕ) → j ≤ suc (length rest) → EachLegal c mode s (take j (n ∷ rest)) → j ≤ 0
+          none zero p l = zero-le
+          none (suc j) p l = absurd (true-false (sym (l .0) ∙ t))
+
+  -- ---- THE theorem: every replay keeps the promise
+
+  pub longest-one : (list : List ℕ) {j k : ℕ} → Longest c mode list j → Longest c mode list k → j ≡ k
+  longest-one list {j} {k} a b = le-antisymm (b .longest j (a .part) (a .legal)) (a .longest k (b .part) (b .legal))
+
+  module _ (inside : ContextIn c) (top : c .«step_max» ≤ stepMost) (list : List ℕ) (known : AllKnown list) where
+    after-first : (k : ℕ) → EachLegal c mode (startOf c) (take k list) → AfterFirst c mode list k
+    unfolding startOf
+    after-first k l =
+        let first = take k list in
+        let start = start-in c inside in
+        let g = along-inside (startOf c) first start (take-known list k known) l in
+        let prices = prices-charged c (startOf c) L.Nothing L.Nothing first refl in
+        record {
+          legal = l;
+          points = rw prices (along-points (startOf c) first start (take-known list k known) l);
+          charged = prices;
+          step = along-step (startOf c) first;
+          durability = g .state .room;
+          quiet = g .state .buffs .quiet;
+          inside = g;
+        }
+
+    at-most : (k : ℕ) → k ≤ length list → EachLegal c mode (startOf c) (take k list) → k ≤ stepMost
+    unfolding startOf
+    at-most k p l =
+        let few = along-few top (startOf c) (take k list) (lit≤ tt) (start-in c inside) (take-known list k known) l in
+        let whole : length (take k list) ≡ k = length-take k list ∙ min-eq-left p in
+        by (c .«use_delineation») few whole
+      where
+        by : (b : Bool) → length (take k list) + stepLeast ≤ stepMost + cond b 1 0 → length (take k list) ≡ k → k ≤ stepMost
+        by true few whole = omega arith
+        by false few whole = omega arith
+
+    pub promised : Promise c mode list (replayOf c mode list)
+    unfolding replayOf
+    promised =
+        let r = run (startOf c) 0 list known in
+        let e : replayFrom c mode (startOf c) 0 list .executed ≡ lead (startOf c) list = r .executed ∙ zero-add (lead (startOf c) list) in
+        record {
+          executed = subst (Longest c mode list) (sym e) (record { part = r .part; legal = r .legal; longest = r .longest });
+          each = λ k h. after-first k (part-legal (startOf c) list k (lead (startOf c) list) (le-trans h (le-of-eq e)) (r .legal));
+          state = r .state ∙ ap (λ (k : ℕ). after c (startOf c) (take k list)) (sym e);
+          few = le-trans (le-of-eq e) (at-most (lead (startOf c) list) (r .part) (r .legal));
+        }

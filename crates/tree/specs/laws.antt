@@ -1,0 +1,14 @@
+pub mod Float
+pub mod Node
+pub mod Tree
+pub mod Climb
+pub mod Back
+pub mod Solution
+pub mod Descent
+pub mod Best
+pub mod Children
+pub mod Grow
+pub mod Paths
+pub mod Kept
+pub mod Propagate
+pub mod Worked
