@@ -11,8 +11,8 @@ use Rattle.laws.specs.Bits.{has}
 use Rattle.text.specs.Over.{over, Put}
 use Rattle.text.specs.laws.Over.{over-none, over-step}
 use Rattle.action.specs.Known.{actions}
-use Rattle.action_set.specs.Set.{upward, membersOf, sizeOf}
-use Rattle.action_set.specs.laws.Set.{members-size}
+use Rattle.action_set.specs.Sets.{upward, membersOf, sizeOf}
+use Rattle.action_set.specs.laws.Sets.{members-size}
 
 abbrev later : ℕ → ℕ → List ℕ
 later s m = upward (actions - m) m (has s)

@@ -12,7 +12,7 @@ use Rattle.laws.specs.laws.Lists.{elem}
 use Rattle.laws.specs.Bits.{has}
 use Rattle.text.specs.Over.{over}
 use Rattle.action.specs.Known.{listTest}
-use Rattle.action_set.specs.Set.{setTest, memberTests, setOf, withOf, withoutOf, sizeOf, highestOf, membersOf}
+use Rattle.action_set.specs.Sets.{setTest, memberTests, setOf, withOf, withoutOf, sizeOf, highestOf, membersOf}
 use Rattle.action_set.specs.declared.Changed.{Changed}
 use Rattle.action_set.specs.declared.Changed.the-variants as C
 use Rattle.action_set.specs.declared.Asked.{Asked}
@@ -77,11 +77,11 @@ FromList l r = Says changed (listTest l ∷ []) (aSet (setOf (elem l))) r
 abbrev pub Contains : ℕ → ℕ → Asked → Type 0
 Contains s n r = Says asked (memberTests s n) (A.Is (has s n)) r
 
-abbrev pub Set : ℕ → ℕ → Changed → Type 0
-Set s n r = Says changed (memberTests s n) (aSet (withOf s n)) r
+abbrev pub Added : ℕ → ℕ → Changed → Type 0
+Added s n r = Says changed (memberTests s n) (aSet (withOf s n)) r
 
-abbrev pub Unset : ℕ → ℕ → Changed → Type 0
-Unset s n r = Says changed (memberTests s n) (aSet (withoutOf s n)) r
+abbrev pub Removed : ℕ → ℕ → Changed → Type 0
+Removed s n r = Says changed (memberTests s n) (aSet (withoutOf s n)) r
 
 abbrev pub Len : ℕ → Size → Type 0
 Len s r = Says size (setTest s ∷ []) (S.Is (sizeOf s)) r

@@ -1,3 +1,3 @@
-pub mod Set
+pub mod Sets
 pub mod Entries
 pub mod laws

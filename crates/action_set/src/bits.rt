@@ -6,7 +6,7 @@ ghost use Rattle.laws.specs.laws.Lists.{elem};
 ghost use Rattle.laws.specs.Bits.{has, Member, Top};
 ghost use Rattle.text.specs.Over.{Put};
 ghost use Rattle.action.specs.Known.{actions, knownFront};
-ghost use Rattle.action_set.specs.Set.{Inside, withOf, withoutOf, keepOf, sizeOf, setOf, membersOf};
+ghost use Rattle.action_set.specs.Sets.{SetIn, withOf, withoutOf, keepOf, sizeOf, setOf, membersOf};
 use action::ACTIONS;
 
 pub fn bit(n: u8) -> u32
@@ -24,21 +24,21 @@ pub fn holds(s: u32, n: u8) -> bool
 }
 
 pub fn add(s: u32, n: u8) -> u32
-    requires { ⌜ Inside s × (n < actions) ⌝ }
-    ensures { λ r. ⌜ (r ≡ withOf s n) × Inside r ⌝ }
+    requires { ⌜ SetIn s × (n < actions) ⌝ }
+    ensures { λ r. ⌜ (r ≡ withOf s n) × SetIn r ⌝ }
 {
     s | bit(n)
 }
 
 pub fn remove(s: u32, n: u8) -> u32
-    requires { ⌜ Inside s × (n < actions) ⌝ }
+    requires { ⌜ SetIn s × (n < actions) ⌝ }
     ensures { λ r. ⌜ r ≡ withoutOf s n ⌝ }
 {
     s - (s & bit(n))
 }
 
 pub fn size(s: u32) -> u32
-    requires { ⌜ Inside s ⌝ }
+    requires { ⌜ SetIn s ⌝ }
     ensures { λ r. ⌜ r ≡ sizeOf s ⌝ }
 {
     u32::count_ones(s)
@@ -46,7 +46,7 @@ pub fn size(s: u32) -> u32
 
 // The highest member.
 pub fn top(s: u32) -> u8
-    requires { ⌜ (0 < s) × Inside s ⌝ }
+    requires { ⌜ (0 < s) × SetIn s ⌝ }
     ensures { λ r. ⌜ Top s r ⌝ }
 {
     (31 - u32::leading_zeros(s)) as u8
@@ -54,7 +54,7 @@ pub fn top(s: u32) -> u8
 
 // The member that a walk takes next: which one decides the walk's direction, and no answer.
 pub fn next(s: u32) -> u8
-    requires { ⌜ (0 < s) × Inside s ⌝ }
+    requires { ⌜ (0 < s) × SetIn s ⌝ }
     ensures { λ r. ⌜ Member actions s r ⌝ }
 {
     top(s)
@@ -62,7 +62,7 @@ pub fn next(s: u32) -> u8
 
 // The walk over a set: each member is taken off what remains, tested, and dropped if it fails. Here the test is membership of a second set.
 pub fn keep(s: u32, passing: u32) -> u32
-    requires { ⌜ Inside s ⌝ }
+    requires { ⌜ SetIn s ⌝ }
     ensures { λ r. ⌜ r ≡ keepOf (has passing) s ⌝ }
 {
     let mut kept = s;

@@ -1,8 +1,8 @@
 // Sets of actions: 31 bits, bit n for action n. Every method takes any number, and refuses what is outside the limits.
 ghost use mathlib.Core.Path.{_≡_};
 ghost use Rattle.refusal.specs.Judge.{checkedOf, checksOf};
-ghost use Rattle.action_set.specs.Set.{setTest, memberTests};
-ghost use Rattle.action_set.specs.Entries.{FromBits, FromList, Contains, Set, Unset, Len, IsEmpty, HighestIs, Members};
+ghost use Rattle.action_set.specs.Sets.{setTest, memberTests};
+ghost use Rattle.action_set.specs.Entries.{FromBits, FromList, Contains, Added, Removed, Len, IsEmpty, HighestIs, Members};
 use refusal::Checked;
 use refusal::Refusal;
 
@@ -106,7 +106,7 @@ impl ActionSet {
     }
 
     pub fn set(self, n: u8) -> Changed
-        ensures { λ r. ⌜ Set (self .0) n r ⌝ }
+        ensures { λ r. ⌜ Added (self .0) n r ⌝ }
     {
         let tested = self.check_with(n);
         if let Checked::Refused(x) = tested {
@@ -117,7 +117,7 @@ impl ActionSet {
     }
 
     pub fn unset(self, n: u8) -> Changed
-        ensures { λ r. ⌜ Unset (self .0) n r ⌝ }
+        ensures { λ r. ⌜ Removed (self .0) n r ⌝ }
     {
         let tested = self.check_with(n);
         if let Checked::Refused(x) = tested {

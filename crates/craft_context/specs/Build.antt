@@ -24,8 +24,8 @@ givenOr (G.Value n) other = n
 givenOr G.Nothing other = other
 
 -- the modifier counts where the player's level is at most the recipe's
-unfoldable pub contextOf : Player → Recipe → CraftOptions → CraftContext
-contextOf player recipe options =
+unfoldable pub builtOf : Player → Recipe → CraftOptions → CraftContext
+builtOf player recipe options =
     record {
       «player_job_level» = player .«job_level»;
       «recipe_job_level» = recipe .«job_level»;
@@ -67,4 +67,4 @@ built = record { told = builtTold; refused = B.Refused; refusing = λ x. refl }
 -- the numbers to build from are tested first, and then the context that they give
 abbrev pub New : Player → Recipe → CraftOptions → Built → Type 0
 New player recipe options r =
-    Says built (buildTests player recipe ++ contextTests (contextOf player recipe options)) (B.Context (contextOf player recipe options)) r
+    Says built (buildTests player recipe ++ contextTests (builtOf player recipe options)) (B.Context (builtOf player recipe options)) r

@@ -9,7 +9,7 @@ use lib.IntN.{ℤ, pos, negsuc}
 use Rattle.refusal.specs.Judge.{Test}
 use Rattle.refusal.specs.declared.Refusal.the-variants.{OutsideLimits}
 use Rattle.action.specs.Limits.{factorMost, targetMost}
-use Rattle.action_set.specs.Set.{Inside, setTest}
+use Rattle.action_set.specs.Sets.{SetIn, setTest}
 use Rattle.craft_context.specs.declared.context.CraftContext.{CraftContext}
 use Rattle.craft_context.specs.declared.sheet.Player.{Player}
 use Rattle.craft_context.specs.declared.sheet.Recipe.{Recipe}
@@ -72,4 +72,4 @@ pub record ContextIn (c : CraftContext) : Type 0 where
   pub qualityTarget : c .«quality_target» ≤ targetMost
   pub durability : durable (c .«durability_max») ≡ true
   pub cpMax : c .«cp_max» ≤ targetMost
-  pub pool : Inside (c .«action_pool» .0)
+  pub pool : SetIn (c .«action_pool» .0)

@@ -7,7 +7,7 @@ use Rattle.action.specs.Actions as A
 use Rattle.action.specs.Table.{attributesOf}
 use Rattle.action.specs.declared.table.Amount.{Amount}
 use Rattle.action.specs.declared.table.Amount.the-variants as M
-use Rattle.action_set.specs.Set.{setOf}
+use Rattle.action_set.specs.Sets.{setOf}
 use Rattle.craft_context.specs.declared.sheet.Player.{Player}
 use Rattle.craft_context.specs.declared.sheet.Recipe.{Recipe}
 

@@ -4,7 +4,7 @@ ghost use mathlib.Core.Bool.{_&&_};
 ghost use lib.Dec.{leb};
 ghost use Rattle.refusal.specs.Judge.{checksOf};
 ghost use Rattle.craft_context.specs.Limits.{divMost, buildTests};
-ghost use Rattle.craft_context.specs.Build.{givenOr, contextOf, Buildable, New};
+ghost use Rattle.craft_context.specs.Build.{givenOr, builtOf, Buildable, New};
 use super::context::CraftContext;
 use super::factor::base_factor;
 use super::pool::determine_action_pool;
@@ -72,7 +72,7 @@ fn given_or(given: Given, other: u32) -> u32
 
 fn build(player: Player, recipe: Recipe, options: CraftOptions) -> CraftContext
     requires { ⌜ Buildable player recipe ⌝ }
-    ensures { λ r. ⌜ r ≡ contextOf player recipe options ⌝ }
+    ensures { λ r. ⌜ r ≡ builtOf player recipe options ⌝ }
 {
     let scaled = player.job_level <= recipe.job_level;
     let progress = base_factor(

@@ -13,7 +13,7 @@ use Rattle.craft_state.specs.declared.buffs.Buffs.{Buffs}
 use Rattle.craft_state.specs.declared.state.CraftState.{CraftState}
 
 -- from -19 to the most, which is from 1 to 97; each is raised to a natural number, since omega reads no sign
-pub record Room (d most : ℤ) : Type 0 where
+pub record DurabilityIn (d most : ℤ) : Type 0 where
   pub from : raise durabilityLeast ≤ raise d
   pub to : raise d ≤ raise most
   pub above : raise (pos 0) < raise most
@@ -33,13 +33,13 @@ pub record StateIn (context : CraftContext) (state : CraftState) : Type 0 where
   pub step : stepLeast ≤ state .step
   pub progress : state .progress ≤ amountMost
   pub quality : state .quality ≤ amountMost
-  pub room : Room (state .durability) (context .«durability_max»)
+  pub room : DurabilityIn (state .durability) (context .«durability_max»)
   pub cp : state .cp ≤ context .«cp_max»
   pub combo : comboAgrees (state .«previous_combo_action») (state .action) ≡ true
   pub buffs : BuffsIn (state .buffs)
   pub last : lastKnown (state .action) ≡ true
 
 -- what every inner function over a state rests on
-pub record Given (c : CraftContext) (s : CraftState) : Type 0 where
+pub record CraftIn (c : CraftContext) (s : CraftState) : Type 0 where
   pub context : ContextIn c
   pub state : StateIn c s

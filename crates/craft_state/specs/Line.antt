@@ -14,8 +14,8 @@ shareOf width part most unit = rightOf width (decimalOf part) ++ bytes "/" ++ ri
 unfoldable pub signedShareOf : ℕ → ℤ → ℤ → List ℕ → List ℕ
 signedShareOf width part most unit = rightOf width (signedOf part) ++ bytes "/" ++ rightOf width (signedOf most) ++ unit
 
-unfoldable pub lineOf : CraftContext → CraftState → List ℕ
-lineOf c s =
+unfoldable pub displayOf : CraftContext → CraftState → List ℕ
+displayOf c s =
     shareOf 5 (s .progress) (c .«progress_target») (bytes " progress | ")
     ++ shareOf 5 (s .quality) (c .«quality_target») (bytes " quality | ")
     ++ signedShareOf 2 (s .durability) (c .«durability_max») (bytes " durability | ")

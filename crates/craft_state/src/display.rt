@@ -2,7 +2,7 @@
 ghost use Prim.Native.Nat.{_+_, _≤_};
 ghost use lib.ListN.{length};
 ghost use Rattle.text.specs.Over.{Put};
-ghost use Rattle.craft_state.specs.Line.{shareOf, signedShareOf, shareMost, signedShareMost, lineOf, lineMost};
+ghost use Rattle.craft_state.specs.Line.{shareOf, signedShareOf, shareMost, signedShareMost, displayOf, lineMost};
 use super::state::CraftState;
 use craft_context::CraftContext;
 
@@ -40,7 +40,7 @@ fn put_signed_share(
 
 pub fn put_line(context: CraftContext, state: CraftState, out: &mut [u8], at: usize) -> usize
     requires { ⌜ at + lineMost ≤ length (now out) ⌝ }
-    ensures { λ r. ⌜ Put (now (out .entry)) at (lineOf context state) r (now (out .exit)) × (r ≤ at + lineMost) ⌝ }
+    ensures { λ r. ⌜ Put (now (out .entry)) at (displayOf context state) r (now (out .exit)) × (r ≤ at + lineMost) ⌝ }
 {
     let quality = put_share(
         out,

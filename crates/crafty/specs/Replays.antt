@@ -10,7 +10,7 @@ use Rattle.action.specs.Known.{listTest}
 use Rattle.craft_context.specs.declared.context.CraftContext.{CraftContext}
 use Rattle.craft_context.specs.Limits.{contextTests}
 use Rattle.moves.specs.declared.mode.Mode.{Mode}
-use Rattle.score.specs.Result.{Sound}
+use Rattle.score.specs.Result.{ScoreIsNumber}
 use Rattle.simulator.specs.Replay.{replayOf}
 use Rattle.simulator.specs.Promise.{Promise}
 use Rattle.crafty.specs.declared.replays.Replayed.{Replayed}
@@ -30,13 +30,13 @@ Kept context mode list (R.Report replay) = Promise context mode list replay
 Kept context mode list (R.Refused x) = Unit {0}
 
 -- no score is a NaN
-abbrev SoundIn : Replayed → Type 0
-SoundIn (R.Report replay) = Sound (replay .result)
-SoundIn (R.Refused x) = Unit {0}
+abbrev ScoreIsNumberIn : Replayed → Type 0
+ScoreIsNumberIn (R.Report replay) = ScoreIsNumber (replay .result)
+ScoreIsNumberIn (R.Refused x) = Unit {0}
 
 pub record Replays (context : CraftContext) (mode : Mode) (list : List ℕ) (r : Replayed) : Type 0 where
   -- refusal 1, then refusal 3 over the whole list; else the report that the definition gives
   pub says : Says replayed (contextTests context ++ (listTest list ∷ [])) (R.Report (replayOf context mode list)) r
   -- which executes the longest leading part whose actions are each legal where they stand, with all that demand 3 says of each action
   pub promise : Kept context mode list r
-  pub score : SoundIn r
+  pub score : ScoreIsNumberIn r

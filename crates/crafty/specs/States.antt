@@ -15,12 +15,12 @@ use Rattle.action.specs.Known.{actionTest}
 use Rattle.craft_context.specs.declared.context.CraftContext.{CraftContext}
 use Rattle.craft_state.specs.declared.state.CraftState.{CraftState}
 use Rattle.craft_state.specs.Limits.{givenTests}
-use Rattle.craft_state.specs.Line.{lineOf}
+use Rattle.craft_state.specs.Line.{displayOf}
 use Rattle.step.specs.Step.{executeOf}
 use Rattle.moves.specs.declared.mode.Mode.{Mode}
 use Rattle.moves.specs.Moves.{movesOf}
 use Rattle.score.specs.Score.{scoreOf}
-use Rattle.score.specs.Result.{resultOf, Sound}
+use Rattle.score.specs.Result.{resultOf, ScoreIsNumber}
 use Rattle.crafty.specs.Room.{WritesText}
 use Rattle.crafty.specs.declared.room.Written.{Written}
 use Rattle.crafty.specs.declared.states.Allowed.{Allowed}
@@ -76,19 +76,19 @@ abbrev pub Steps : CraftContext → CraftState → Mode → ℕ → Stepped → 
 Steps context state mode n r = Says stepped (givenTests context state ++ (actionTest n ∷ legalTest context state mode n ∷ [])) (S.To (executeOf context state n)) r
 
 -- no score is a NaN, in a result or alone
-abbrev SoundIn : Judged → Type 0
-SoundIn (J.Result result) = Sound result
-SoundIn (J.Refused x) = Unit {0}
+abbrev ScoreIsNumberIn : Judged → Type 0
+ScoreIsNumberIn (J.Result result) = ScoreIsNumber result
+ScoreIsNumberIn (J.Refused x) = Unit {0}
 
 abbrev NumberIn : Scored → Type 0
 NumberIn (C.Score score) = T (not (isNan score))
 NumberIn (C.Refused x) = Unit {0}
 
 abbrev pub HasResult : CraftContext → CraftState → Mode → Judged → Type 0
-HasResult context state mode r = Says resulted (givenTests context state) (J.Result (resultOf context state mode)) r × SoundIn r
+HasResult context state mode r = Says resulted (givenTests context state) (J.Result (resultOf context state mode)) r × ScoreIsNumberIn r
 
 abbrev pub HasScore : CraftContext → CraftState → Scored → Type 0
 HasScore context state r = Says scored (givenTests context state) (C.Score (scoreOf context state)) r × NumberIn r
 
 abbrev pub HasLine : CraftContext → CraftState → List ℕ → Written → List ℕ → Type 0
-HasLine context state out r after = WritesText (givenTests context state) (lineOf context state) out r after
+HasLine context state out r after = WritesText (givenTests context state) (displayOf context state) out r after

@@ -28,9 +28,9 @@ doneOf value = record { number = 0; value = value }
 abbrev pub refusedOf : Refusal → CraftyAnswer
 refusedOf x = record { number = reportOf x .0; value = valueIn (reportOf x .1) }
 
-abbrev pub toldOf : Written → CraftyAnswer
-toldOf (W.Length length) = doneOf length
-toldOf (W.Refused x) = refusedOf x
+abbrev pub wroteOf : Written → CraftyAnswer
+wroteOf (W.Length length) = doneOf length
+wroteOf (W.Refused x) = refusedOf x
 
 abbrev pub lastedOf : Lasting → CraftyAnswer
 lastedOf (L.Seconds seconds) = doneOf seconds

@@ -1,6 +1,6 @@
 pub mod Answer
 pub mod Numbers
-pub mod Replays
+pub mod TellsNumbers
 pub mod Texts
 pub mod Trees
 pub mod laws

@@ -82,5 +82,5 @@ stateNumbers s =
     ∷ (buffNumbers (s .buffs) ++ (lastNumber (s .action) ∷ []))
 
 -- the result, its score, how many actions were executed, the moves, and the state
-abbrev pub numbersOf : Replay → List ℕ
-numbersOf report = verdictOf (report .result) ∷ scoreNumber (report .result) ∷ report .executed ∷ report .moves .0 ∷ stateNumbers (report .state)
+abbrev pub replayNumbers : Replay → List ℕ
+replayNumbers report = verdictOf (report .result) ∷ scoreNumber (report .result) ∷ report .executed ∷ report .moves .0 ∷ stateNumbers (report .state)

@@ -1,6 +1,6 @@
 // What every function answers.
 ghost use mathlib.Core.Path.{_≡_};
-ghost use Rattle.crafty_c.specs.Answer.{valueIn, doneOf, refusedOf, toldOf, lastedOf};
+ghost use Rattle.crafty_c.specs.Answer.{valueIn, doneOf, refusedOf, wroteOf, lastedOf};
 use crafty::Lasting;
 use crafty::Written;
 use refusal::Also;
@@ -42,8 +42,8 @@ pub fn refused(x: Refusal) -> CraftyAnswer
 }
 
 // The answer of an entry that writes.
-pub fn told(written: Written) -> CraftyAnswer
-    ensures { λ r. ⌜ r ≡ toldOf written ⌝ }
+pub fn wrote(written: Written) -> CraftyAnswer
+    ensures { λ r. ⌜ r ≡ wroteOf written ⌝ }
 {
     match written {
         Written::Length(length) => done(length),

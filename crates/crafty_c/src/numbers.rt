@@ -3,9 +3,9 @@ ghost use mathlib.Core.Path.{_≡_};
 ghost use Prim.Native.Nat.{_≤_};
 ghost use lib.ListN.{length};
 ghost use Rattle.craft_state.specs.Limits.{stepMost};
-ghost use Rattle.score.specs.Result.{verdictOf, Sound};
+ghost use Rattle.score.specs.Result.{verdictOf, ScoreIsNumber};
 ghost use Rattle.text.specs.Over.{over};
-ghost use Rattle.crafty_c.specs.Numbers.{scoreNumber, wordOf, comboNumber, perfectionNumber, lastNumber, flagNumber, numbersOf};
+ghost use Rattle.crafty_c.specs.Numbers.{scoreNumber, wordOf, comboNumber, perfectionNumber, lastNumber, flagNumber, replayNumbers};
 use action::ACTIONS;
 use action::Combo;
 use craft_state::Last;
@@ -32,7 +32,7 @@ fn verdict(result: CraftResult) -> u32
 
 // The bits of the score, 0 where there is none.
 fn score_bits(result: CraftResult) -> u32
-    requires { ⌜ Sound result ⌝ }
+    requires { ⌜ ScoreIsNumber result ⌝ }
     ensures { λ r. ⌜ r ≡ scoreNumber result ⌝ }
 {
     match result {
@@ -93,8 +93,8 @@ fn flag(b: bool) -> u32
 }
 
 pub fn numbers(report: Replay) -> [u32; NUMBERS]
-    requires { ⌜ Sound (report .result) × (report .executed ≤ stepMost) ⌝ }
-    ensures { λ r. ⌜ r ≡ numbersOf report ⌝ }
+    requires { ⌜ ScoreIsNumber (report .result) × (report .executed ≤ stepMost) ⌝ }
+    ensures { λ r. ⌜ r ≡ replayNumbers report ⌝ }
 {
     let result = report.result;
     let moves = report.moves;

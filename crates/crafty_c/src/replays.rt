@@ -4,7 +4,7 @@ ghost use mathlib.Core.List.{[], _∷_};
 ghost use lib.ListN.{length};
 ghost use Rattle.craft_context.specs.Limits.{ContextIn};
 ghost use Rattle.context_line.specs.Shape.{fields};
-ghost use Rattle.crafty_c.specs.Replays.{Reports, Replays};
+ghost use Rattle.crafty_c.specs.Reports.{Reports, TellsNumbers};
 use super::answer::CraftyAnswer;
 use super::answer::done;
 use super::answer::refused;
@@ -37,7 +37,7 @@ fn report(context: CraftContext, mode: Mode, list: &[u8], out: &mut [u32]) -> Cr
 // In a context given by the numbers of its fields.
 fn replay(values: &[u64], mode: Mode, list: &[u8], out: &mut [u32]) -> CraftyAnswer
     requires { ⌜ length (now values) ≡ fields ⌝ }
-    ensures { λ r. ⌜ Replays (now (values .entry)) mode (now (list .entry)) (now (out .entry)) r (now (out .exit)) ⌝ }
+    ensures { λ r. ⌜ TellsNumbers (now (values .entry)) mode (now (list .entry)) (now (out .entry)) r (now (out .exit)) ⌝ }
 {
     let read = context_line::from_numbers(values);
     match read {
@@ -67,7 +67,7 @@ pub extern "C" fn crafty_replay(
     list: &[u8],
     out: &mut [u32],
 ) -> CraftyAnswer
-    ensures { λ r. ⌜ Replays («player_job_level» ∷ «recipe_job_level» ∷ «base_progress_factor» ∷ «base_quality_factor» ∷ «step_max» ∷ «progress_target» ∷ «starting_quality» ∷ «quality_target» ∷ «durability_max» ∷ «cp_max» ∷ «is_expert» ∷ «action_pool» ∷ «player_is_specialist» ∷ «use_manipulation» ∷ «use_delineation» ∷ []) (record { strict = strict }) (now (list .entry)) (now (out .entry)) r (now (out .exit)) ⌝ }
+    ensures { λ r. ⌜ TellsNumbers («player_job_level» ∷ «recipe_job_level» ∷ «base_progress_factor» ∷ «base_quality_factor» ∷ «step_max» ∷ «progress_target» ∷ «starting_quality» ∷ «quality_target» ∷ «durability_max» ∷ «cp_max» ∷ «is_expert» ∷ «action_pool» ∷ «player_is_specialist» ∷ «use_manipulation» ∷ «use_delineation» ∷ []) (record { strict = strict }) (now (list .entry)) (now (out .entry)) r (now (out .exit)) ⌝ }
 {
     let values = [
         player_job_level as u64,

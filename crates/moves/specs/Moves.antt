@@ -9,7 +9,7 @@ use Rattle.laws.specs.Bits.{has}
 use Rattle.action.specs.Actions as A
 use Rattle.action.specs.Table.{attributesOf}
 use Rattle.action.specs.declared.table.Attributes.{Attributes}
-use Rattle.action_set.specs.Set.{keepOf}
+use Rattle.action_set.specs.Sets.{keepOf}
 use Rattle.craft_context.specs.declared.context.CraftContext.{CraftContext}
 use Rattle.craft_state.specs.declared.state.CraftState.{CraftState}
 use Rattle.moves.specs.Rules.{affords, mayImprove, eyeAlone, outsideMemory, outsideVeneration, afterObserve, mayProgress, ownRule, strictRule}

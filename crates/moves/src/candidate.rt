@@ -3,7 +3,7 @@ ghost use mathlib.Core.Path.{_≡_};
 ghost use Prim.Native.Nat.{_<_};
 ghost use Rattle.action.specs.Known.{actions};
 ghost use Rattle.action.specs.Bounds.{RowBounds};
-ghost use Rattle.craft_state.specs.Inside.{Given};
+ghost use Rattle.craft_state.specs.Inside.{CraftIn};
 ghost use Rattle.moves.specs.Rules.{affords, mayImprove};
 ghost use Rattle.moves.specs.Moves.{allowedOf, allowsOf};
 use super::mode::Mode;
@@ -36,7 +36,7 @@ fn may_improve(context: CraftContext, state: CraftState, attribute: Amount) -> b
 }
 
 fn allowed(context: CraftContext, state: CraftState, mode: Mode, n: u8, row: Attributes) -> bool
-    requires { ⌜ Given context state × RowBounds n row ⌝ }
+    requires { ⌜ CraftIn context state × RowBounds n row ⌝ }
     ensures { λ r. ⌜ r ≡ allowedOf context state mode n row ⌝ }
 {
     let cost = row.cp_cost;
@@ -52,7 +52,7 @@ fn allowed(context: CraftContext, state: CraftState, mode: Mode, n: u8, row: Att
 
 // The row is looked up here and handed down.
 pub fn allows(context: CraftContext, state: CraftState, mode: Mode, n: u8) -> bool
-    requires { ⌜ Given context state × (n < actions) ⌝ }
+    requires { ⌜ CraftIn context state × (n < actions) ⌝ }
     ensures { λ r. ⌜ r ≡ allowsOf context state mode n ⌝ }
 {
     allowed(context, state, mode, n, action::attributes_of(n))

@@ -3,8 +3,8 @@ ghost use mathlib.Core.Path.{_≡_};
 ghost use Prim.Native.Nat.{_<_};
 ghost use Rattle.laws.specs.Bits.{has};
 ghost use Rattle.action.specs.Known.{actions};
-ghost use Rattle.action_set.specs.Set.{Inside, keepOf};
-ghost use Rattle.craft_state.specs.Inside.{Given};
+ghost use Rattle.action_set.specs.Sets.{Inside, keepOf};
+ghost use Rattle.craft_state.specs.Inside.{CraftIn};
 ghost use Rattle.moves.specs.Moves.{ended, allowsOf, passesOf, movesOf};
 use super::candidate::allows;
 use super::mode::Mode;
@@ -23,7 +23,7 @@ pub fn has_ended(context: CraftContext, state: CraftState) -> bool
 
 // The walk over a set: each member is tested, and dropped if it fails.
 fn keep_allowed(context: CraftContext, state: CraftState, mode: Mode, set: u32) -> u32
-    requires { ⌜ Given context state × Inside set ⌝ }
+    requires { ⌜ CraftIn context state × Inside set ⌝ }
     ensures { λ r. ⌜ (r ≡ keepOf (allowsOf context state mode) set) × Inside r ⌝ }
 {
     let mut kept = set;
@@ -42,7 +42,7 @@ fn keep_allowed(context: CraftContext, state: CraftState, mode: Mode, set: u32) 
 // One candidate of a state that has not ended: the pool has it, and it passes the test. It is walked over alone, so that the test has one
 // caller and the compiler makes one piece of both.
 pub fn passes(context: CraftContext, state: CraftState, mode: Mode, n: u8) -> bool
-    requires { ⌜ Given context state × (n < actions) ⌝ }
+    requires { ⌜ CraftIn context state × (n < actions) ⌝ }
     ensures { λ r. ⌜ r ≡ passesOf context state mode n ⌝ }
 {
     let pool = context.action_pool;
@@ -55,7 +55,7 @@ pub fn passes(context: CraftContext, state: CraftState, mode: Mode, n: u8) -> bo
 
 // One candidate of any state: the same as looking it up in the moves.
 pub fn is_legal(context: CraftContext, state: CraftState, mode: Mode, n: u8) -> bool
-    requires { ⌜ Given context state × (n < actions) ⌝ }
+    requires { ⌜ CraftIn context state × (n < actions) ⌝ }
     ensures { λ r. ⌜ r ≡ has (movesOf context state mode) n ⌝ }
 {
     if has_ended(context, state) {
@@ -66,7 +66,7 @@ pub fn is_legal(context: CraftContext, state: CraftState, mode: Mode, n: u8) -> 
 
 // The walk over the pool.
 pub fn legal_moves(context: CraftContext, state: CraftState, mode: Mode) -> u32
-    requires { ⌜ Given context state ⌝ }
+    requires { ⌜ CraftIn context state ⌝ }
     ensures { λ r. ⌜ (r ≡ movesOf context state mode) × Inside r ⌝ }
 {
     if has_ended(context, state) {

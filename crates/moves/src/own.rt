@@ -4,7 +4,7 @@ ghost use lib.IntN.{_-ℤ_};
 ghost use Rattle.action.specs.Amount.{AtMost};
 ghost use Rattle.action.specs.Bounds.{RowBounds};
 ghost use Rattle.action.specs.Limits.{wearMost};
-ghost use Rattle.craft_state.specs.Inside.{Room};
+ghost use Rattle.craft_state.specs.Inside.{DurabilityIn};
 ghost use Rattle.moves.specs.Rules.{isUnused, noWasteNot, onObserve, withstands, ownRule, strictRule};
 use action::Amount;
 use action::Attributes;
@@ -88,14 +88,14 @@ pub fn own_rule(context: CraftContext, state: CraftState, n: u8, row: Attributes
 }
 
 fn lost(durability: i8, most: i8) -> i8
-    requires { ⌜ Room durability most ⌝ }
+    requires { ⌜ DurabilityIn durability most ⌝ }
     ensures { λ r. ⌜ r ≡ most -ℤ durability ⌝ }
 {
     most - durability
 }
 
 pub fn strict_rule(context: CraftContext, state: CraftState, n: u8) -> bool
-    requires { ⌜ Room (state .durability) (context .«durability_max») ⌝ }
+    requires { ⌜ DurabilityIn (state .durability) (context .«durability_max») ⌝ }
     ensures { λ r. ⌜ r ≡ strictRule context state n ⌝ }
 {
     match n {

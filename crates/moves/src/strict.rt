@@ -1,7 +1,7 @@
 // The rules of strict mode, in the order of the source.
 ghost use mathlib.Core.Path.{_≡_};
 ghost use Rattle.action.specs.Bounds.{RowBounds};
-ghost use Rattle.craft_state.specs.Inside.{Given};
+ghost use Rattle.craft_state.specs.Inside.{CraftIn};
 ghost use Rattle.step.specs.Asked.{Progressing};
 ghost use Rattle.moves.specs.Rules.{eyeAlone, outsideMemory, outsideVeneration, afterObserve, mayProgress};
 ghost use Rattle.moves.specs.Moves.{strictlyOf};
@@ -83,7 +83,7 @@ fn may_progress(context: CraftContext, state: CraftState, progress: Amount, qual
 }
 
 pub fn strictly(context: CraftContext, state: CraftState, n: u8, row: Attributes) -> bool
-    requires { ⌜ Given context state × RowBounds n row ⌝ }
+    requires { ⌜ CraftIn context state × RowBounds n row ⌝ }
     ensures { λ r. ⌜ r ≡ strictlyOf context state n row ⌝ }
 {
     if is_eye_alone(context, state) {

@@ -23,12 +23,12 @@ abbrev pub between : List ℕ → ℕ → ℕ → List ℕ
 between text start end = take (end - start) (drop start text)
 
 -- what a word from `start` up to `end` is
-abbrev pub told : ℕ → ℕ → Found → Next
-told start end (F.Action n) = Action n end
-told start end F.Nothing = Unknown start
+abbrev pub wordIs : ℕ → ℕ → Found → Next
+wordIs start end (F.Action n) = Action n end
+wordIs start end F.Nothing = Unknown start
 
 abbrev pub nextFrom : List ℕ → ℕ → Next
-nextFrom text start = cond (leb (length text) start) End (told start (endFrom text start) (foundOf (between text start (endFrom text start))))
+nextFrom text start = cond (leb (length text) start) End (wordIs start (endFrom text start) (foundOf (between text start (endFrom text start))))
 
 unfoldable pub nextOf : List ℕ → ℕ → Next
 nextOf text at = nextFrom text (startFrom text at)

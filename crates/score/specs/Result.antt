@@ -41,9 +41,9 @@ scoresIn R.InvalidActionFailure = []
 scoresIn R.Continuing = []
 
 -- the score in a result is no NaN
-abbrev pub Sound : CraftResult → Type 0
-Sound (R.Finished score) = T (not (isNan score))
-Sound R.DurabilityFailure = Unit {0}
-Sound R.MaxStepsFailure = Unit {0}
-Sound R.InvalidActionFailure = Unit {0}
-Sound R.Continuing = Unit {0}
+abbrev pub ScoreIsNumber : CraftResult → Type 0
+ScoreIsNumber (R.Finished score) = T (not (isNan score))
+ScoreIsNumber R.DurabilityFailure = Unit {0}
+ScoreIsNumber R.MaxStepsFailure = Unit {0}
+ScoreIsNumber R.InvalidActionFailure = Unit {0}
+ScoreIsNumber R.Continuing = Unit {0}

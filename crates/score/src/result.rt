@@ -1,7 +1,7 @@
 // The result of a state, by document 01's order.
 ghost use mathlib.Core.Path.{_≡_};
-ghost use Rattle.craft_state.specs.Inside.{Given};
-ghost use Rattle.score.specs.Result.{judgedBy, resultOf, Sound};
+ghost use Rattle.craft_state.specs.Inside.{CraftIn};
+ghost use Rattle.score.specs.Result.{judgedBy, resultOf, ScoreIsNumber};
 use super::scoring::score;
 use craft_context::CraftContext;
 use craft_state::CraftState;
@@ -19,8 +19,8 @@ pub enum CraftResult {
 
 // By the state's legal moves.
 pub fn judge(context: CraftContext, state: CraftState, moves: u32) -> CraftResult
-    requires { ⌜ Given context state ⌝ }
-    ensures { λ r. ⌜ (r ≡ judgedBy context state moves) × Sound r ⌝ }
+    requires { ⌜ CraftIn context state ⌝ }
+    ensures { λ r. ⌜ (r ≡ judgedBy context state moves) × ScoreIsNumber r ⌝ }
 {
     if state.progress >= context.progress_target {
         return CraftResult::Finished(score(context, state));
@@ -39,8 +39,8 @@ pub fn judge(context: CraftContext, state: CraftState, moves: u32) -> CraftResul
 
 // The moves are worked out anew, in the mode of the call.
 pub fn check_result(context: CraftContext, state: CraftState, mode: Mode) -> CraftResult
-    requires { ⌜ Given context state ⌝ }
-    ensures { λ r. ⌜ (r ≡ resultOf context state mode) × Sound r ⌝ }
+    requires { ⌜ CraftIn context state ⌝ }
+    ensures { λ r. ⌜ (r ≡ resultOf context state mode) × ScoreIsNumber r ⌝ }
 {
     judge(context, state, moves::legal_moves(context, state, mode))
 }

@@ -4,7 +4,7 @@ ghost use mathlib.Core.Bool.{not};
 ghost use lib.Dec.{T};
 ghost use lib.Ieee.{isNan};
 ghost use Rattle.craft_context.specs.Factor.{float};
-ghost use Rattle.craft_state.specs.Inside.{Given};
+ghost use Rattle.craft_state.specs.Inside.{CraftIn};
 ghost use Rattle.score.specs.Score.{cappedOf, partOf, fewerOf, weighedOf, scoreOf};
 use craft_context::CraftContext;
 use craft_state::CraftState;
@@ -73,7 +73,7 @@ fn weighed(context: CraftContext, state: CraftState) -> f32
 
 // Without a quality target the steps alone count.
 pub fn score(context: CraftContext, state: CraftState) -> f32
-    requires { ⌜ Given context state ⌝ }
+    requires { ⌜ CraftIn context state ⌝ }
     ensures { λ r. ⌜ (r ≡ scoreOf context state) × T (not (isNan r)) ⌝ }
 {
     if context.quality_target == 0 {

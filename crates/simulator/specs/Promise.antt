@@ -12,7 +12,7 @@ use Rattle.action.specs.Table.{attributesOf}
 use Rattle.craft_context.specs.declared.context.CraftContext.{CraftContext}
 use Rattle.craft_state.specs.declared.state.CraftState.{CraftState}
 use Rattle.craft_state.specs.Limits.{stepLeast, stepMost}
-use Rattle.craft_state.specs.Inside.{Room, Given}
+use Rattle.craft_state.specs.Inside.{DurabilityIn, CraftIn}
 use Rattle.craft_state.specs.Start.{startOf}
 use Rattle.step.specs.Step.{executeOf}
 use Rattle.moves.specs.declared.mode.Mode.{Mode}
@@ -47,10 +47,10 @@ pub record AfterFirst (c : CraftContext) (mode : Mode) (list : List ℕ) (k : �
   -- step is one plus those other than QuickInnovation
   pub step : after c (startOf c) (take k list) .step ≡ stepLeast + stepsIn (take k list)
   -- durability is from -19 to its most, and inner quiet at most 10
-  pub durability : Room (after c (startOf c) (take k list) .durability) (c .«durability_max»)
+  pub durability : DurabilityIn (after c (startOf c) (take k list) .durability) (c .«durability_max»)
   pub quiet : after c (startOf c) (take k list) .buffs .«inner_quiet» ≤ quietMost
   -- the state is inside the limits
-  pub inside : Given c (after c (startOf c) (take k list))
+  pub inside : CraftIn c (after c (startOf c) (take k list))
 
 -- ---- the longest leading part whose actions are each legal where they stand
 

@@ -24,14 +24,14 @@ goesOn R.Continuing = true
 
 -- ---- what is reported where it stops: the state's own result, or invalid at an action outside its moves
 
-abbrev reportOf : CraftContext → Mode → CraftState → ℕ → CraftResult → Replay
-reportOf c mode s executed result = record { state = s; moves = record { 0 = movesOf c s mode }; result = result; executed = executed }
+abbrev stoppedAt : CraftContext → Mode → CraftState → ℕ → CraftResult → Replay
+stoppedAt c mode s executed result = record { state = s; moves = record { 0 = movesOf c s mode }; result = result; executed = executed }
 
 unfoldable pub stopOf : CraftContext → Mode → CraftState → ℕ → Replay
-stopOf c mode s executed = reportOf c mode s executed (resultOf c s mode)
+stopOf c mode s executed = stoppedAt c mode s executed (resultOf c s mode)
 
 unfoldable pub slipOf : CraftContext → Mode → CraftState → ℕ → Replay
-slipOf c mode s executed = reportOf c mode s executed R.InvalidActionFailure
+slipOf c mode s executed = stoppedAt c mode s executed R.InvalidActionFailure
 
 -- ---- the rest of a list in a state, after so many actions
 

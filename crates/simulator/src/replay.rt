@@ -4,8 +4,8 @@ ghost use Prim.Native.Nat.{_≤_};
 ghost use lib.ListN.{length};
 ghost use Rattle.action.specs.Known.{knownFront};
 ghost use Rattle.craft_context.specs.Limits.{ContextIn};
-ghost use Rattle.craft_state.specs.Inside.{Given};
-ghost use Rattle.score.specs.Result.{Sound};
+ghost use Rattle.craft_state.specs.Inside.{CraftIn};
+ghost use Rattle.score.specs.Result.{ScoreIsNumber};
 ghost use Rattle.simulator.specs.Replay.{stopOf, slipOf, replayOf};
 use action_set::ActionSet;
 use craft_context::CraftContext;
@@ -24,8 +24,8 @@ pub struct Replay {
 
 // The craft has ended, or the list. The moves are worked out only where a replay stops, here or in `slip`.
 fn stop(context: CraftContext, mode: Mode, state: CraftState, executed: usize) -> Replay
-    requires { ⌜ Given context state ⌝ }
-    ensures { λ r. ⌜ (r ≡ stopOf context mode state executed) × Sound (r .result) ⌝ }
+    requires { ⌜ CraftIn context state ⌝ }
+    ensures { λ r. ⌜ (r ≡ stopOf context mode state executed) × ScoreIsNumber (r .result) ⌝ }
 {
     let moves = moves::legal_moves(context, state, mode);
     Replay {
@@ -38,8 +38,8 @@ fn stop(context: CraftContext, mode: Mode, state: CraftState, executed: usize) -
 
 // The next action is not among the moves.
 fn slip(context: CraftContext, mode: Mode, state: CraftState, executed: usize) -> Replay
-    requires { ⌜ Given context state ⌝ }
-    ensures { λ r. ⌜ (r ≡ slipOf context mode state executed) × Sound (r .result) ⌝ }
+    requires { ⌜ CraftIn context state ⌝ }
+    ensures { λ r. ⌜ (r ≡ slipOf context mode state executed) × ScoreIsNumber (r .result) ⌝ }
 {
     Replay {
         state,
@@ -52,7 +52,7 @@ fn slip(context: CraftContext, mode: Mode, state: CraftState, executed: usize) -
 // One loop, broken with its report where it stops.
 pub fn execute_actions(context: CraftContext, mode: Mode, list: &[u8]) -> Replay
     requires { ⌜ ContextIn context × (length (now list) ≤ knownFront (now list)) ⌝ }
-    ensures { λ r. ⌜ (r ≡ replayOf context mode (now (list .entry))) × Sound (r .result) ⌝ }
+    ensures { λ r. ⌜ (r ≡ replayOf context mode (now (list .entry))) × ScoreIsNumber (r .result) ⌝ }
 {
     let mut state = fresh(context);
     let mut i = 0;

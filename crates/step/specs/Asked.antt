@@ -13,7 +13,7 @@ use Rattle.action.specs.declared.table.Attributes.{Attributes}
 use Rattle.action.specs.declared.price.Combo.{Combo}
 use Rattle.craft_context.specs.declared.context.CraftContext.{CraftContext}
 use Rattle.craft_state.specs.declared.state.CraftState.{CraftState}
-use Rattle.craft_state.specs.Inside.{Given}
+use Rattle.craft_state.specs.Inside.{CraftIn}
 
 -- said of an attribute where there is one
 abbrev pub Where : Amount → Type 0 → Type 0
@@ -27,7 +27,7 @@ Payable cp combo n Nothing = Unit {0}
 
 -- what a legal action rests on, by its row
 pub record Playable (c : CraftContext) (s : CraftState) (n : ℕ) (row : Attributes) : Type 0 where
-  pub given : Given c s
+  pub given : CraftIn c s
   pub known : n < actions
   pub below : s .progress < c .«progress_target»
   pub early : s .step < c .«step_max»

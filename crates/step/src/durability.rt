@@ -4,7 +4,7 @@ ghost use Prim.Native.Nat.{_≤_};
 ghost use lib.IntN.{pos, _-ℤ_};
 ghost use Rattle.action.specs.Amount.{AtMost};
 ghost use Rattle.action.specs.Limits.{wearMost};
-ghost use Rattle.craft_state.specs.Inside.{Room};
+ghost use Rattle.craft_state.specs.Inside.{DurabilityIn};
 ghost use Rattle.step.specs.Durability.{mendedOf, mastersMends, refreshedTo};
 ghost use Rattle.step.specs.Parts.{isActive, spent, wear};
 ghost use Rattle.step.specs.Step.{wornOf, refreshedOf};
@@ -56,7 +56,7 @@ pub fn wears(state: CraftState, cost: u32) -> u32
 }
 
 fn hurt(durability: i8, most: i8, cost: u32) -> i8
-    requires { ⌜ Room durability most × (cost ≤ wearMost) ⌝ }
+    requires { ⌜ DurabilityIn durability most × (cost ≤ wearMost) ⌝ }
     ensures { λ r. ⌜ r ≡ durability -ℤ pos cost ⌝ }
 {
     durability - cost as i8
@@ -64,7 +64,7 @@ fn hurt(durability: i8, most: i8, cost: u32) -> i8
 
 // Durability given back, up to the most.
 pub fn mend(durability: i8, by: u32, most: i8) -> i8
-    requires { ⌜ Room durability most × (by ≤ mastersMends) ⌝ }
+    requires { ⌜ DurabilityIn durability most × (by ≤ mastersMends) ⌝ }
     ensures { λ r. ⌜ r ≡ mendedOf durability by most ⌝ }
 {
     let up = durability + by as i8;
@@ -75,7 +75,7 @@ pub fn mend(durability: i8, by: u32, most: i8) -> i8
 }
 
 pub fn worn(context: CraftContext, state: CraftState, attribute: Amount) -> CraftState
-    requires { ⌜ Room (state .durability) (context .«durability_max») × AtMost wearMost attribute ⌝ }
+    requires { ⌜ DurabilityIn (state .durability) (context .«durability_max») × AtMost wearMost attribute ⌝ }
     ensures { λ r. ⌜ r ≡ wornOf state attribute ⌝ }
 {
     let Amount::Of(cost) = attribute else {
@@ -91,7 +91,7 @@ pub fn worn(context: CraftContext, state: CraftState, attribute: Amount) -> Craf
 }
 
 fn refresh(durability: i8, manipulation: u8, most: i8) -> i8
-    requires { ⌜ Room durability most ⌝ }
+    requires { ⌜ DurabilityIn durability most ⌝ }
     ensures { λ r. ⌜ r ≡ refreshedTo durability manipulation most ⌝ }
 {
     if (manipulation > 0) & (durability > 0) {
@@ -102,7 +102,7 @@ fn refresh(durability: i8, manipulation: u8, most: i8) -> i8
 
 // What manipulation gives back.
 pub fn refreshed(context: CraftContext, state: CraftState) -> CraftState
-    requires { ⌜ Room (state .durability) (context .«durability_max») ⌝ }
+    requires { ⌜ DurabilityIn (state .durability) (context .«durability_max») ⌝ }
     ensures { λ r. ⌜ r ≡ refreshedOf context state ⌝ }
 {
     let mut next = state;

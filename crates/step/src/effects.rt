@@ -1,7 +1,7 @@
 // Parts 8 and 9: the timers fall, and the action's effects, which come last.
 ghost use mathlib.Core.Path.{_≡_};
 ghost use Prim.Native.Nat.{_-_};
-ghost use Rattle.craft_state.specs.Inside.{Room};
+ghost use Rattle.craft_state.specs.Inside.{DurabilityIn};
 ghost use Rattle.step.specs.Parts.{mendAfter, perfectedBy};
 ghost use Rattle.step.specs.Step.{timedOf, buffedOf, affectedOf};
 use super::durability::mend;
@@ -73,7 +73,7 @@ fn buffed(state: CraftState, n: u8) -> CraftState
 }
 
 fn mended(n: u8, durability: i8, most: i8) -> i8
-    requires { ⌜ Room durability most ⌝ }
+    requires { ⌜ DurabilityIn durability most ⌝ }
     ensures { λ r. ⌜ r ≡ mendAfter n durability most ⌝ }
 {
     if n == action::MASTERS_MEND {
@@ -95,7 +95,7 @@ fn perfected(n: u8, perfection: Perfection) -> Perfection
 }
 
 pub fn affected(context: CraftContext, state: CraftState, n: u8) -> CraftState
-    requires { ⌜ Room (state .durability) (context .«durability_max») ⌝ }
+    requires { ⌜ DurabilityIn (state .durability) (context .«durability_max») ⌝ }
     ensures { λ r. ⌜ r ≡ affectedOf context state n ⌝ }
 {
     let combo = state.previous_combo_action;

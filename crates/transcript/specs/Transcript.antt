@@ -9,7 +9,7 @@ use Rattle.text.specs.Decimal.{decimalOf}
 use Rattle.text.specs.Hex.{hexOf}
 use Rattle.craft_context.specs.declared.context.CraftContext.{CraftContext}
 use Rattle.craft_state.specs.declared.state.CraftState.{CraftState}
-use Rattle.craft_state.specs.Line.{lineOf}
+use Rattle.craft_state.specs.Line.{displayOf}
 use Rattle.craft_state.specs.Start.{startOf}
 use Rattle.step.specs.Step.{executeOf}
 use Rattle.moves.specs.laws.Moves.{plain}
@@ -20,7 +20,7 @@ use Rattle.simulator.specs.Replay.{replayOf}
 
 -- a state's line, and byte 10
 unfoldable pub rowOf : CraftContext → CraftState → List ℕ
-rowOf c s = lineOf c s ++ bytes "\n"
+rowOf c s = displayOf c s ++ bytes "\n"
 
 -- the rows of the states after each action of a list, all executed
 unfoldable pub rowsOf : CraftContext → CraftState → List ℕ → List ℕ

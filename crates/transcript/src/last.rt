@@ -5,7 +5,7 @@ ghost use lib.Ieee.{isNan};
 ghost use lib.ListN.{length};
 ghost use mathlib.Core.Bool.{not};
 ghost use Rattle.text.specs.Over.{Put};
-ghost use Rattle.score.specs.Result.{Sound};
+ghost use Rattle.score.specs.Result.{ScoreIsNumber};
 ghost use Rattle.transcript.specs.Transcript.{finishedOf, resultTextOf, resultMost, lastOf, lastMost};
 use score::CraftResult;
 
@@ -20,7 +20,7 @@ fn put_finished(score: f32, out: &mut [u8], at: usize) -> usize
 }
 
 fn put_result(result: CraftResult, out: &mut [u8], at: usize) -> usize
-    requires { ⌜ Sound result × (at + resultMost ≤ length (now out)) ⌝ }
+    requires { ⌜ ScoreIsNumber result × (at + resultMost ≤ length (now out)) ⌝ }
     ensures { λ r. ⌜ Put (now (out .entry)) at (resultTextOf result) r (now (out .exit)) × (r ≤ at + resultMost) ⌝ }
 {
     match result {
@@ -33,7 +33,7 @@ fn put_result(result: CraftResult, out: &mut [u8], at: usize) -> usize
 }
 
 pub fn put_last(result: CraftResult, executed: u32, listed: u32, out: &mut [u8], at: usize) -> usize
-    requires { ⌜ Sound result × (at + lastMost ≤ length (now out)) ⌝ }
+    requires { ⌜ ScoreIsNumber result × (at + lastMost ≤ length (now out)) ⌝ }
     ensures { λ r. ⌜ Put (now (out .entry)) at (lastOf result executed listed) r (now (out .exit)) ⌝ }
 {
     let word = put_result(result, out, at);

@@ -2,7 +2,7 @@
 ghost use Prim.Native.Nat.{_+_, _*_, _≤_};
 ghost use lib.ListN.{length};
 ghost use Rattle.text.specs.Over.{Put};
-ghost use Rattle.craft_state.specs.Inside.{Given};
+ghost use Rattle.craft_state.specs.Inside.{CraftIn};
 ghost use Rattle.transcript.specs.Transcript.{rowOf, rowMost, rowsOf};
 ghost use Rattle.transcript.specs.laws.Transcript.{Played};
 use craft_context::CraftContext;
@@ -25,7 +25,7 @@ pub fn put_rows(
     out: &mut [u8],
     at: usize,
 ) -> usize
-    requires { ⌜ Given context start × Played context start (now part) × (at + rowMost * length (now part) ≤ length (now out)) ⌝ }
+    requires { ⌜ CraftIn context start × Played context start (now part) × (at + rowMost * length (now part) ≤ length (now out)) ⌝ }
     ensures { λ r. ⌜ Put (now (out .entry)) at (rowsOf context start (now (part .entry))) r (now (out .exit)) × (r ≤ at + rowMost * length (now (part .entry))) ⌝ }
 {
     let mut state = start;

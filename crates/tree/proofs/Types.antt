@@ -7,10 +7,10 @@ use lib.ListN.{length, set}
 use Rattle.tree.specs.Tree.{nodeAt}
 use Rattle.tree.proofs.node.Node as T
 use Rattle.tree.proofs.node.Node.Laws as T′
-use Rattle.walks.proofs.Values.{Kind, usize′, unit′, struct′}
+use Rattle.walks.proofs.Values.{Datum, usize′, unit′, struct′}
 use Rattle.walks.proofs.Functions.{that, MutFn, ShrFn}
 
-abbrev pub node′ : Kind
+abbrev pub node′ : Datum
 node′ = struct′ T.the-type T′.the-laws T′.the-copy T′.the-plain
 
 abbrev pub node-at′ : ShrFn T.the-row

@@ -21,17 +21,17 @@ use Rattle.tree.proofs.climb.Survey as S
 use Rattle.tree.proofs.climb.Survey.Laws as S′
 use Rattle.tree.proofs.back.Propagated as P
 use Rattle.tree.proofs.back.Propagated.Laws as P′
-use Rattle.walks.proofs.Values.{Kind, usize′, f32′, bool′, unit′, struct′, enum′}
+use Rattle.walks.proofs.Values.{Datum, usize′, f32′, bool′, unit′, struct′, enum′}
 use Rattle.walks.proofs.Functions.{nothing-asked, that, MutFn, ShrFn, PlainFn}
 use Rattle.tree.proofs.Types.{node′}
 
-abbrev pub survey′ : Kind
+abbrev pub survey′ : Datum
 survey′ = struct′ S.the-type S′.the-laws S′.the-copy S′.the-plain
 
-abbrev pub checked′ : Kind
+abbrev pub checked′ : Datum
 checked′ = enum′ C.the-type C′.the-laws C′.the-copy C′.the-plain tt
 
-abbrev pub propagated′ : Kind
+abbrev pub propagated′ : Datum
 propagated′ = enum′ P.the-type P′.the-laws P′.the-copy P′.the-plain tt
 
 -- a record's parent is a usize

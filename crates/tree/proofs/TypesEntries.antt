@@ -11,13 +11,13 @@ use Rattle.tree.proofs.paths.Offspring as L
 use Rattle.tree.proofs.paths.Offspring.Laws as L′
 use Rattle.tree.proofs.paths.Solved as S
 use Rattle.tree.proofs.paths.Solved.Laws as S′
-use Rattle.walks.proofs.Values.{Kind, usize′, bool′, enum′}
+use Rattle.walks.proofs.Values.{Datum, usize′, bool′, enum′}
 use Rattle.walks.proofs.Functions.{nothing-asked, PlainFn, BothFn}
 
-abbrev pub listed′ : Kind
+abbrev pub listed′ : Datum
 listed′ = enum′ L.the-type L′.the-laws L′.the-copy L′.the-plain tt
 
-abbrev pub solved′ : Kind
+abbrev pub solved′ : Datum
 solved′ = enum′ S.the-type S′.the-laws S′.the-copy S′.the-plain tt
 
 abbrev pub has-room′ : PlainFn

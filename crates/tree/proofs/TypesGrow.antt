@@ -18,22 +18,22 @@ use Rattle.tree.proofs.grow.Inserted as I
 use Rattle.tree.proofs.grow.Inserted.Laws as I′
 use Rattle.tree.proofs.grow.Recorded as R
 use Rattle.tree.proofs.grow.Recorded.Laws as R′
-use Rattle.walks.proofs.Values.{Kind, usize′, u8′, bool′, enum′}
+use Rattle.walks.proofs.Values.{Datum, usize′, u8′, bool′, enum′}
 use Rattle.walks.proofs.Functions.{nothing-asked, that, MutFn, ShrFn, PlainFn}
 use Rattle.tree.proofs.Types.{node′}
 
 -- ---- types
 
-abbrev pub refusal′ : Kind
+abbrev pub refusal′ : Datum
 refusal′ = enum′ F.the-type F′.the-laws F′.the-copy F′.the-plain tt
 
-abbrev pub planted′ : Kind
+abbrev pub planted′ : Datum
 planted′ = enum′ P.the-type P′.the-laws P′.the-copy P′.the-plain tt
 
-abbrev pub inserted′ : Kind
+abbrev pub inserted′ : Datum
 inserted′ = enum′ I.the-type I′.the-laws I′.the-copy I′.the-plain tt
 
-abbrev pub recorded′ : Kind
+abbrev pub recorded′ : Datum
 recorded′ = enum′ R.the-type R′.the-laws R′.the-copy R′.the-plain tt
 
 -- ---- the scan

@@ -17,13 +17,13 @@ use Rattle.tree.proofs.node.Node as T
 use Rattle.tree.proofs.node.Node.Laws as T′
 use Rattle.tree.proofs.best.Best as B
 use Rattle.tree.proofs.best.Best.Laws as B′
-use Rattle.walks.proofs.Values.{Kind, usize′, u8′, bool′, struct′}
+use Rattle.walks.proofs.Values.{Datum, usize′, u8′, bool′, struct′}
 use Rattle.walks.proofs.Functions.{nothing-asked, that, MutFn, ShrFn, PlainFn, BothFn}
 use Rattle.tree.proofs.Types.{node′}
 
 -- ---- the best child, and the way down
 
-abbrev pub best′ : Kind
+abbrev pub best′ : Datum
 best′ = struct′ B.the-type B′.the-laws B′.the-copy B′.the-plain
 
 abbrev pub none′ : PlainFn

@@ -31,7 +31,7 @@ use denote.Triple.Statement.{Contract, Triple}
 use denote.Triple.Call.{calls-at, calls-at-last}
 use denote.Triple.Clauses.{Lasts, lasts}
 use Rattle.walks.proofs.Lend.{View, fat, named-at, Tok, Own, Shr, MutFor, ShrFor, LentMut, LentShr, lends-mut, lends-shr, mut-back, shr-back}
-use Rattle.walks.proofs.Values.{Kind, Data, machine, Known, rowsOf, valsOf, at, from, from-at, flat-at, had}
+use Rattle.walks.proofs.Values.{Datum, Data, machine, Known, rowsOf, valsOf, at, from, from-at, flat-at, had}
 use Rattle.walks.proofs.Functions.{Met, asked, ask-in, MutFn, ShrFn, PlainFn, BothFn, bothT, mutT, shrT, plainT, ContractMut, ContractShr, ContractBoth, ContractPlain}
 use Rattle.walks.proofs.Locals.{under⊢}
 
@@ -66,7 +66,7 @@ module _ {M : Type 1} {𝓤 : URA M} {H : Heap 𝓤} where
 -- ---- the calls
 module _ {M : Type 1} {𝓤 : URA M} {H : Heap 𝓤} {A : Atoms 𝓤} {K : Type 0} {W : Given 𝓤 H A} {Γ : List (Item 𝓤)} {f : Name} {xs : List Operand} {d : Place} {B : Body} (s : Site f xs d B) (C : Calls 𝓤 H) (Λ : Loops 𝓤 H) (E : Env 𝓤 H) (P : Post 𝓤 H) where
   -- the callee's result is r, whose machine value is written out
-  result : K → (res : Kind) (r : res .row .Denot) (w : Val) → (Is (res .row) r (res .val r ∷ []) → Typed (res .row .mir) (res .val r ∷ []) → Seq K W Γ (landing s C Λ E (res .val r) P)) → Seq K W (‵ (res .row .own r (w ∷ [])) ∷ Γ) (landing s C Λ E w P)
+  result : K → (res : Datum) (r : res .row .Denot) (w : Val) → (Is (res .row) r (res .val r ∷ []) → Typed (res .row .mir) (res .val r ∷ []) → Seq K W Γ (landing s C Λ E (res .val r) P)) → Seq K W (‵ (res .row .own r (w ∷ [])) ∷ Γ) (landing s C Λ E w P)
   result t res r w k = peeks t (res .row) (Is (res .row)) (shows 𝓤 H A (res .row)) r (w ∷ []) (λ is.
       drop t $ regoal t (λ (u : Val). landing s C Λ E u P) (ap only (res .tells r (w ∷ []) is)) refl $
       let is′ = subst (Is (res .row) r) (res .tells r (w ∷ []) is) is in k is′ (res .lawful 𝓤 H A W .typed r (res .val r ∷ []) is′))

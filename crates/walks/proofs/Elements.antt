@@ -21,16 +21,16 @@ use denote.Memory.{mem, cellAt}
 use denote.Slice.{sliceVal, Room, at-slice}
 use denote.Index.{place as spot, place-is, elem-out, elem-back, elem-put, opens-slice, closes-slice, looks-slice, shuts-slice}
 use Rattle.walks.proofs.Lend.{View, fat as wide, named-at, Tok, Own, Shr}
-use Rattle.walks.proofs.Values.{Kind}
+use Rattle.walks.proofs.Values.{Datum}
 use Rattle.walks.proofs.Locals.{index}
 
 -- one machine value in memory, as the machine sees it: by computation, at a type that is written out
-abbrev pub Lone : Kind → Ty → Type 1
+abbrev pub Lone : Datum → Ty → Type 1
 Lone k τ = (q : Share) (v : Val) (b o : ℕ) → cellAt q (k .row .mir) (v ∷ []) b o ≡ fat q (rawTy τ) b o v
 
 module _ {M : Type 1} {𝓤 : URA M} {H : Heap 𝓤} {A : Atoms 𝓤} {K : Type 0} {W : Given 𝓤 H A} {Γ : List (Item 𝓤)} {E : Env 𝓤 H} {C : Calls 𝓤 H} {Λ : Loops 𝓤 H} {P : Post 𝓤 H} {τ : Ty} {rest : Body} where
   -- the local y is the pointer, and x the one that is given the element
-  pub reads-at : K → (k : Kind) → Lone k τ → Copy 𝓤 H A (k .row) → (S : View (k .row)) (ys : List (k .row .Denot)) (i : ℕ) (e : k .row .Denot) → i < length ys → length ys ≡ S .count → {x y : ℕ}
+  pub reads-at : K → (k : Datum) → Lone k τ → Copy 𝓤 H A (k .row) → (S : View (k .row)) (ys : List (k .row .Denot)) (i : ℕ) (e : k .row .Denot) → i < length ys → length ys ≡ S .count → {x y : ℕ}
       → nth 𝓤 H A (index y Γ) Γ ≡ ‵ (fat fullShare (spotOf 𝓤 H E y .0) (spotOf 𝓤 H E y .1) zero (vptr (S .block) (i * mem (k .row) .size + S .offset))) → nth 𝓤 H A (index x Γ) Γ ≡ ‵ (froom (spotOf 𝓤 H E x .0) (spotOf 𝓤 H E x .1) zero)
       → (Typed (k .row .mir) (k .val (getD ys i e) ∷ []) → T (hasTy (spotOf 𝓤 H E x .0) (k .val (getD ys i e))) × WT (k .val (getD ys i e)))
       → (Is (k .row) (getD ys i e) (k .val (getD ys i e) ∷ []) → Typed (k .row .mir) (k .val (getD ys i e) ∷ []) → Seq K W (‵ (Shr S ys) ∷ ‵ (Tok S) ∷ put 𝓤 H A (index x Γ) (‵ (fat fullShare (spotOf 𝓤 H E x .0) (spotOf 𝓤 H E x .1) zero (k .val (getD ys i e)))) Γ) (runs C Λ E rest P))
@@ -52,7 +52,7 @@ module _ {M : Type 1} {𝓤 : URA M} {H : Heap 𝓤} {A : Atoms 𝓤} {K : Type 
       move t (2 ∷ 1 ∷ []) $ fjoin t $ pureI t (at-slice (k .row) (named-at S (S .name) ys) (wide S ∷ [])) (tt, (tt, tt)) fact $ fjoin t $ s is ty)))
 
   -- the local x is the one whose value v is stored
-  pub writes-at : K → (k : Kind) → Lone k τ → (S : View (k .row)) (ys : List (k .row .Denot)) (i : ℕ) (e v : k .row .Denot) → i < length ys → length ys ≡ S .count → Is (k .row) v (k .val v ∷ []) → {x y : ℕ}
+  pub writes-at : K → (k : Datum) → Lone k τ → (S : View (k .row)) (ys : List (k .row .Denot)) (i : ℕ) (e v : k .row .Denot) → i < length ys → length ys ≡ S .count → Is (k .row) v (k .val v ∷ []) → {x y : ℕ}
       → nth 𝓤 H A (index y Γ) Γ ≡ ‵ (fat fullShare (spotOf 𝓤 H E y .0) (spotOf 𝓤 H E y .1) zero (vptr (S .block) (i * mem (k .row) .size + S .offset))) → nth 𝓤 H A (index x Γ) Γ ≡ ‵ (fat fullShare (spotOf 𝓤 H E x .0) (spotOf 𝓤 H E x .1) zero (k .val v))
       → (Typed (k .row .mir) (k .val v ∷ []) → T (hasTy τ (k .val v)) × WT (k .val v))
       → Seq K W (‵ (Own S (set ys i v)) ∷ ‵ (Tok S) ∷ Γ) (runs C Λ E rest P) → Seq K W (‵ (Own S ys) ∷ ‵ (Tok S) ∷ Γ) (runs C Λ E (seq (assign (place y (deref τ ∷ [])) (rvOpd (copy (place x [])))) rest) P)

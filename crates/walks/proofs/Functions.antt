@@ -17,7 +17,7 @@ use denote.Triple.Spec.{tripleOf}
 use denote.Triple.Statement.{Contract}
 use denote.Triple.Walked.{needs}
 use denote.Triple.Clauses.{Clauses, Ended, closing}
-use Rattle.walks.proofs.Values.{Kind, Data, slotsOf, from}
+use Rattle.walks.proofs.Values.{Datum, Data, slotsOf, from}
 
 pub data Asks (X Y : Type 0) : Type 1 where
   nothing-asked : Asks X Y
@@ -42,27 +42,27 @@ module _ {X Y : Type 0} where
     ask-out (that P) x y In k = needs 𝓤 (P x y) In k
 
 pub record MutFn (R : RattleType) : Type 3 where
-  pub takes : List Kind
-  pub gives : Kind
+  pub takes : List Datum
+  pub gives : Datum
   pub asks : Asks (List (R .Denot)) (Data takes)
   pub says : List (R .Denot) → Data takes → gives .row .Denot → List (R .Denot) → Type 0
 
 pub record ShrFn (R : RattleType) : Type 3 where
-  pub takes : List Kind
-  pub gives : Kind
+  pub takes : List Datum
+  pub gives : Datum
   pub asks : Asks (List (R .Denot)) (Data takes)
   pub says : List (R .Denot) → Data takes → gives .row .Denot → Type 0
 
 pub record PlainFn : Type 3 where
-  pub takes : List Kind
-  pub gives : Kind
+  pub takes : List Datum
+  pub gives : Datum
   pub asks : Asks (Unit {0}) (Data takes)
   pub says : Data takes → gives .row .Denot → Type 0
 
 -- a function of a `&[R]` and a `&mut [D]`, and then of plain data
 pub record BothFn (R D : RattleType) : Type 3 where
-  pub takes : List Kind
-  pub gives : Kind
+  pub takes : List Datum
+  pub gives : Datum
   pub asks : Asks (List (R .Denot) × List (D .Denot)) (Data takes)
   pub says : List (R .Denot) → List (D .Denot) → Data takes → gives .row .Denot → List (D .Denot) → Type 0
 

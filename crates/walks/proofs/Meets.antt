@@ -34,7 +34,7 @@ use denote.Triple.Table.{entered}
 use denote.Triple.Walked.{Stays, stay-slice, stay-dropped, fitsOf, hasOf, walkOf, AllGo, goes-slice, goes-dropped, ends-at, walked, walk-meets}
 use Rattle.walks.proofs.Locals.{none, has, stored, slots, deaths, Blocks, env, Suits, starts}
 use Rattle.walks.proofs.Lend.{View, fat, Tok, Own, Shr}
-use Rattle.walks.proofs.Values.{Kind, Data, machine, Known, slotsOf, rowsOf, spellsOf, tellsOf, valsOf, from, flat-is, known-from, lawfulsOf}
+use Rattle.walks.proofs.Values.{Datum, Data, machine, Known, slotsOf, rowsOf, spellsOf, tellsOf, valsOf, from, flat-is, known-from, lawfulsOf}
 use Rattle.walks.proofs.Functions.{Met, ask-out, MutFn, ShrFn, BothFn, mutT, shrT, bothT, mut-clauses, shr-clauses, both-clauses, ContractMut, ContractShr, ContractBoth}
 
 -- the arguments are of the types that the MIR has for the parameters, by computation
@@ -48,27 +48,27 @@ abbrev pub ShrSuits : {R : RattleType} → ShrFn R → List Local → Type 0
 ShrSuits {R} F ls = (κ : Lft) (v : Val) (a : Denots (rowsOf 1 (F .takes) (κ, tt))) (bs : Blocks ls) → Typed (mirs (ShrSlice (named 0) κ R ∷ rowsOf 1 (F .takes) (κ, tt))) (v ∷ flat (rowsOf 1 (F .takes) (κ, tt)) (valsOf 1 (F .takes) (κ, tt) a)) → Suits (env ls bs) (v ∷ machine (F .takes) (from 1 (F .takes) (κ, tt) a))
 
 -- ---- of plain data nothing is had at exit
-abbrev staysOf : (n : ℕ) (ks : List Kind) → Stays {n = n} (slotsOf ks) (all yes (slotsOf ks))
+abbrev staysOf : (n : ℕ) (ks : List Datum) → Stays {n = n} (slotsOf ks) (all yes (slotsOf ks))
 staysOf n [] = tt
 staysOf n (k ∷ ks) = (stay-dropped (plain (λ _. k .row)) yes, staysOf n ks)
 
 silent : {D : Type 0} (e : Exit D) → e ≡ unchanged → (x : D) (f : Last e x) → left e x f ≡ ftrue
 silent e p x = subst (λ (e′ : Exit _). (f : Last e′ x) → left e′ x f ≡ ftrue) (sym p) (λ f. refl)
 
-abbrev lastsOf : (n : ℕ) (ks : List Kind) (κs : Lfts n) (a : Denots (rowsOf n ks κs)) → Fins κs (slotsOf ks) (all yes (slotsOf ks)) a
+abbrev lastsOf : (n : ℕ) (ks : List Datum) (κs : Lfts n) (a : Denots (rowsOf n ks κs)) → Fins κs (slotsOf ks) (all yes (slotsOf ks)) a
 lastsOf n [] κs a = tt
 lastsOf n (k ∷ ks) κs a = (subst (λ (e : Exit (k .row .Denot)). Last e (a .0)) (sym (k .still yes)) tt, lastsOf n ks κs (a .1))
 
-fitsAll : (n : ℕ) (ks : List Kind) (κs : Lfts n) (a : Denots (rowsOf n ks κs)) → fitsOf κs (slotsOf ks) (all yes (slotsOf ks)) (staysOf n ks) a (lastsOf n ks κs a)
+fitsAll : (n : ℕ) (ks : List Datum) (κs : Lfts n) (a : Denots (rowsOf n ks κs)) → fitsOf κs (slotsOf ks) (all yes (slotsOf ks)) (staysOf n ks) a (lastsOf n ks κs a)
 fitsAll n [] κs a = tt
 fitsAll n (k ∷ ks) κs a = (tt, fitsAll n ks κs (a .1))
 
 module _ {M : Type 1} (𝓤 : URA M) (H : Heap 𝓤) (A : Atoms 𝓤) (W : Given 𝓤 H A) where
-  goesOf : (n : ℕ) (ks : List Kind) → AllGo 𝓤 H A W n (slotsOf ks) (all yes (slotsOf ks)) (staysOf n ks)
+  goesOf : (n : ℕ) (ks : List Datum) → AllGo 𝓤 H A W n (slotsOf ks) (all yes (slotsOf ks)) (staysOf n ks)
   goesOf n [] = tt
   goesOf n (k ∷ ks) = (goes-dropped 𝓤 H A W n (plain (λ _. k .row)) yes (λ κs x f. silent (k .row .exit yes) (k .still yes) x f), goesOf n ks)
 
-  hadOf : (n : ℕ) (ks : List Kind) (κs : Lfts n) (a : Denots (rowsOf n ks κs)) (vss : Valss (rowsOf n ks κs)) → ent 𝓤 (emp 𝓤) (sem 𝓤 H A (hasOf κs (slotsOf ks) (all yes (slotsOf ks)) (staysOf n ks) a (lastsOf n ks κs a) vss))
+  hadOf : (n : ℕ) (ks : List Datum) (κs : Lfts n) (a : Denots (rowsOf n ks κs)) (vss : Valss (rowsOf n ks κs)) → ent 𝓤 (emp 𝓤) (sem 𝓤 H A (hasOf κs (slotsOf ks) (all yes (slotsOf ks)) (staysOf n ks) a (lastsOf n ks κs a) vss))
   hadOf n [] κs a vss = id⊢ 𝓤 (emp 𝓤)
   hadOf n (k ∷ ks) κs a vss = qed W [] ∵ use0 W (‵ (hasOf κs (slotsOf ks) (all yes (slotsOf ks)) (staysOf n ks) (a .1) (lastsOf n ks κs (a .1)) (vss .1))) (hadOf n ks κs (a .1) (vss .1)) $ nothing ! $ fjoin ! $ done !
 
@@ -83,7 +83,7 @@ module _ {M : Type 1} (𝓤 : URA M) (H : Heap 𝓤) (A : Atoms 𝓤) (W : Given
         → MutSuits F ls
         → MutWalk F → Triple 𝓤 (WpFn 𝓤 H (𝓣 .C) (𝓣 .Λ) fn) (ContractMut 𝓤 H A F)
     mut-meets F is suits walk =
-        let ks : List Kind = F .takes in
+        let ks : List Datum = F .takes in
         let hs : Stays (mutT F .signature .params) (mutT F .kept) = (stay-slice (0 ∷ []) tt (plain (λ _. R)), staysOf 1 ks) in
         walk-meets 𝓤 H A (mutT F) hs W (goes-slice 𝓤 H A W 1 0 tt (plain (λ _. R)), goesOf 1 ks) (mut-clauses 𝓤 H A F) (WpFn 𝓤 H (𝓣 .C) (𝓣 .Λ) fn) (WpFn-mono 𝓤 H (W .laws) 𝓣 fn)
         (walked 𝓤 H A (mutT F) hs (mut-clauses 𝓤 H A F) (WpFn 𝓤 H (𝓣 .C) (𝓣 .Λ) fn) (λ κs. (slice-vals, spellsOf 1 ks κs)) (λ κs. (mut-slice-tells (named 0) (κs .0) R, tellsOf 1 ks κs))
@@ -114,7 +114,7 @@ module _ {M : Type 1} (𝓤 : URA M) (H : Heap 𝓤) (A : Atoms 𝓤) (W : Given
         → ShrSuits F ls
         → ShrWalk F → Triple 𝓤 (WpFn 𝓤 H (𝓣 .C) (𝓣 .Λ) fn) (ContractShr 𝓤 H A F)
     shr-meets F is suits walk =
-        let ks : List Kind = F .takes in
+        let ks : List Datum = F .takes in
         let hs : Stays (shrT F .signature .params) (shrT F .kept) = (stay-dropped (shrSliceOf (0 ∷ []) tt (plain (λ _. R))) yes, staysOf 1 ks) in
         walk-meets 𝓤 H A (shrT F) hs W (goes-dropped 𝓤 H A W 1 (shrSliceOf (0 ∷ []) tt (plain (λ _. R))) yes (λ κs x f. refl), goesOf 1 ks) (shr-clauses 𝓤 H A F) (WpFn 𝓤 H (𝓣 .C) (𝓣 .Λ) fn) (WpFn-mono 𝓤 H (W .laws) 𝓣 fn)
         (walked 𝓤 H A (shrT F) hs (shr-clauses 𝓤 H A F) (WpFn 𝓤 H (𝓣 .C) (𝓣 .Λ) fn) (λ κs. (slice-vals, spellsOf 1 ks κs)) (λ κs. (shr-slice-tells (named 0) (κs .0) R, tellsOf 1 ks κs))
@@ -144,7 +144,7 @@ module _ {M : Type 1} (𝓤 : URA M) (H : Heap 𝓤) (A : Atoms 𝓤) (W : Given
 
     pub both-meets : (F : BothFn R D) → fn .locals ≡ l ∷ ls → BothSuits F ls → BothWalk F → Triple 𝓤 (WpFn 𝓤 H (𝓣 .C) (𝓣 .Λ) fn) (ContractBoth 𝓤 H A F)
     both-meets F is suits walk =
-        let ks : List Kind = F .takes in
+        let ks : List Datum = F .takes in
         let hs : Stays (bothT F .signature .params) (bothT F .kept) = (stay-dropped (shrSliceOf (0 ∷ []) tt (plain (λ _. R))) yes, (stay-slice (1 ∷ []) tt (plain (λ _. D)), staysOf 2 ks)) in
         walk-meets 𝓤 H A (bothT F) hs W (goes-dropped 𝓤 H A W 2 (shrSliceOf (0 ∷ []) tt (plain (λ _. R))) yes (λ κs x f. refl), (goes-slice 𝓤 H A W 2 1 tt (plain (λ _. D)), goesOf 2 ks)) (both-clauses 𝓤 H A F) (WpFn 𝓤 H (𝓣 .C) (𝓣 .Λ) fn) (WpFn-mono 𝓤 H (W .laws) 𝓣 fn)
         (walked 𝓤 H A (bothT F) hs (both-clauses 𝓤 H A F) (WpFn 𝓤 H (𝓣 .C) (𝓣 .Λ) fn) (λ κs. (slice-vals, (slice-vals, spellsOf 2 ks κs))) (λ κs. (shr-slice-tells (named 0) (κs .0) R, (mut-slice-tells (named 1) (κs .1 .0) D, tellsOf 2 ks κs)))

@@ -11,7 +11,7 @@
 --   - Rules and arithmetic stand in covered functions over a record by value, which a walk calls by `calls-plain`.
 --
 -- 2. What the author writes down, in the crate's proofs/Types.antt: each type of the crate, and each function as its callers see it. With T and T′ the type's module and its `Laws`:
---        node′ : Kind
+--        node′ : Datum
 --        node′ = struct′ T.the-type T′.the-laws T′.the-copy T′.the-plain                            (an enum: enum′ .. tt)
 --        touch′ : MutFn T.the-row
 --        touch′ = record { takes = usize′ ∷ f32′ ∷ []; gives = unit′; asks = that (λ xs a. a .0 < length xs); says = λ xs a _ zs. zs ≡ touchOf xs (a .0) (a .1 .0) }

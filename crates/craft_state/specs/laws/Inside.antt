@@ -23,7 +23,7 @@ use Rattle.craft_context.specs.Limits.{ContextIn, contextTests}
 use Rattle.craft_context.specs.laws.Limits.{context-in, durable-raised}
 use Rattle.craft_state.specs.Limits.{durabilityLeast, buffsInside, stateInside, stateTest, givenTests}
 use Rattle.craft_state.specs.Start.{startOf}
-use Rattle.craft_state.specs.Inside.{Room, BuffsIn, StateIn, Given}
+use Rattle.craft_state.specs.Inside.{DurabilityIn, BuffsIn, StateIn, CraftIn}
 use Rattle.craft_state.specs.declared.buffs.Buffs.{Buffs}
 use Rattle.craft_state.specs.declared.state.CraftState.{CraftState}
 
@@ -78,19 +78,19 @@ in-state context state h =
     rw (le-leb _ _ (h .step), le-leb _ _ (h .progress), le-leb _ _ (h .quality), raise-le durabilityLeast (state .durability) (omega (arith, h .room .from)) (h .room .from), raise-le (state .durability) (context .«durability_max») (omega (arith, h .room .above)) (h .room .to), le-leb _ _ (h .cp), h .combo, in-buffs _ (h .buffs), h .last)
 
 -- the tests that an entry makes first
-pub given-in : (context : CraftContext) (state : CraftState) {checked : Checked} → checked ≡ checksOf (givenTests context state) → checked ≡ Passed → Given context state
-given-in context state e p =
+pub craft-in : (context : CraftContext) (state : CraftState) {checked : Checked} → checked ≡ checksOf (givenTests context state) → checked ≡ Passed → CraftIn context state
+craft-in context state e p =
     let parts = shown-by (contextTests context) (stateTest context state ∷ []) e p in
     let inside = context-in context (parts .0) p in
     record { context = inside; state = state-in context state inside (shown (stateTest context state) [] (parts .1) p .0) }
 
 -- a byte that is read back from its bits is itself
-pub room-read : {d most : ℤ} → Room d most → (toZ w8 (ofZ w8 d) ≡ d) × (toZ w8 (ofZ w8 most) ≡ most)
+pub room-read : {d most : ℤ} → DurabilityIn d most → (toZ w8 (ofZ w8 d) ≡ d) × (toZ w8 (ofZ w8 most) ≡ most)
 room-read {d} {most} r = (toZ-ofZ w8 d (fits8 d (omega arith) (omega arith)), toZ-ofZ w8 most (fits8 most (omega arith) (omega arith)))
 
 -- ---- the start
 
-pub start-in : (c : CraftContext) → ContextIn c → Given c (startOf c)
+pub start-in : (c : CraftContext) → ContextIn c → CraftIn c (startOf c)
 unfolding startOf
 start-in c h =
     let most = durable-raised (c .«durability_max») (h .durability) in

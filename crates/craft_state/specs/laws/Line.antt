@@ -11,7 +11,7 @@ use Rattle.text.specs.Decimal.{decimalOf, signedOf, rightOf}
 use Rattle.text.specs.laws.Lengths.{decimal-most, signed-most, right-length}
 use Rattle.craft_context.specs.declared.context.CraftContext.{CraftContext}
 use Rattle.craft_state.specs.declared.state.CraftState.{CraftState}
-use Rattle.craft_state.specs.Line.{shareOf, signedShareOf, shareMost, signedShareMost, lineOf, lineMost}
+use Rattle.craft_state.specs.Line.{shareOf, signedShareOf, shareMost, signedShareMost, displayOf, lineMost}
 
 right-most : (w : ℕ) (text : List ℕ) {most : ℕ} → w ≤ 10 → 10 ≤ most → length text ≤ most → length (rightOf w text) ≤ most
 right-most w text a b h = omega (arith, right-length w text)
@@ -26,8 +26,8 @@ unfolding signedShareOf
 signed-share-short w part most unit h =
     simp length-append (omega (arith, right-most w (signedOf part) h (omega arith) (signed-most part), right-most w (signedOf most) h (omega arith) (signed-most most)))
 
-pub line-short : (c : CraftContext) (s : CraftState) → length (lineOf c s) ≤ lineMost
-unfolding lineOf
+pub line-short : (c : CraftContext) (s : CraftState) → length (displayOf c s) ≤ lineMost
+unfolding displayOf
 line-short c s =
     simp length-append
     (omega (

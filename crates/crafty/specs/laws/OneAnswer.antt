@@ -15,8 +15,8 @@ use Rattle.refusal.specs.laws.Judge.{one-answer, one-outcome}
 use Rattle.action.specs.declared.price.Combo.{Combo}
 use Rattle.action.specs.declared.texts.Text.the-variants as T
 use Rattle.action_set.specs.declared.ActionSet.{ActionSet}
-use Rattle.action_set.specs.Set.{setTest}
-use Rattle.action_set.specs.Entries.{FromBits, FromList, Contains, Set, Unset, Len, IsEmpty, HighestIs, Members}
+use Rattle.action_set.specs.Sets.{setTest}
+use Rattle.action_set.specs.Entries.{FromBits, FromList, Contains, Added, Removed, Len, IsEmpty, HighestIs, Members}
 use Rattle.craft_context.specs.declared.context.CraftContext.{CraftContext}
 use Rattle.craft_context.specs.declared.sheet.Player.{Player}
 use Rattle.craft_context.specs.declared.sheet.Recipe.{Recipe}
@@ -103,10 +103,10 @@ one-ActionSet-from-list list = says
 pub one-ActionSet-contains : (bits n : ℕ) → OneAnswer (Contains bits n)
 one-ActionSet-contains bits n = says
 
-pub one-ActionSet-set : (bits n : ℕ) → OneAnswer (Set bits n)
+pub one-ActionSet-set : (bits n : ℕ) → OneAnswer (Added bits n)
 one-ActionSet-set bits n = says
 
-pub one-ActionSet-unset : (bits n : ℕ) → OneAnswer (Unset bits n)
+pub one-ActionSet-unset : (bits n : ℕ) → OneAnswer (Removed bits n)
 one-ActionSet-unset bits n = says
 
 pub one-ActionSet-len : (bits : ℕ) → OneAnswer (Len bits)

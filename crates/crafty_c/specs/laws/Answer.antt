@@ -14,7 +14,7 @@ use Rattle.crafty.specs.declared.lists.Lasting.{Lasting}
 use Rattle.crafty.specs.declared.lists.Lasting.the-variants as L
 use Rattle.crafty.specs.Room.{written}
 use Rattle.crafty.specs.Lists.{lasting}
-use Rattle.crafty_c.specs.Answer.{doneOf, toldOf, lastedOf, reportIn, report-in, answered}
+use Rattle.crafty_c.specs.Answer.{doneOf, wroteOf, lastedOf, reportIn, report-in, answered}
 
 -- ---- any kind of answer that is told in another
 
@@ -31,12 +31,12 @@ module _ {A B : Type 0} (to : Kind B) (kind : Kind A) (tell : A → B) (refusing
 
 -- ---- what was written, and a time
 
-written-number : (r : Written) → reportIn (toldOf r) ≡ written .told r
+written-number : (r : Written) → reportIn (wroteOf r) ≡ written .told r
 written-number (W.Length length) = refl
 written-number (W.Refused x) = report-in x
 
-pub writes-told : {tests : List Test} {k : ℕ} {out after text : List ℕ} {r : Written} → Writes written tests (W.Length k) out text r after → Writes answered tests (doneOf k) out text (toldOf r) after
-writes-told w = record { says = says-told answered written toldOf (λ x. refl) written-number (w .says); room = w .room }
+pub writes-told : {tests : List Test} {k : ℕ} {out after text : List ℕ} {r : Written} → Writes written tests (W.Length k) out text r after → Writes answered tests (doneOf k) out text (wroteOf r) after
+writes-told w = record { says = says-told answered written wroteOf (λ x. refl) written-number (w .says); room = w .room }
 
 lasting-number : (r : Lasting) → reportIn (lastedOf r) ≡ lasting .told r
 lasting-number (L.Seconds seconds) = refl

@@ -7,12 +7,12 @@ use lib.Ieee.{Float}
 use Rattle.moves.specs.declared.mode.Mode.{Mode}
 use Rattle.tree.specs.declared.node.Node.{Node}
 use Rattle.crafty.specs.laws.OneAnswer.{OneAnswer, OneOutcome, says, writes, changes}
-use Rattle.crafty_c.specs.Replays.{Replays}
+use Rattle.crafty_c.specs.Reports.{TellsNumbers}
 use Rattle.crafty_c.specs.Texts.{TellsReplay, TellsPrinted, TellsActions, TellsList, TellsSeconds}
 use Rattle.crafty_c.specs.Trees.{TellsPlanted, TellsInserted, TellsPropagated, TellsListed, TellsSolved}
 
 -- values are the fifteen numbers of the context
-pub one-crafty-replay : (values : List ℕ) (mode : Mode) (list out : List ℕ) → OneOutcome (Replays values mode list out)
+pub one-crafty-replay : (values : List ℕ) (mode : Mode) (list out : List ℕ) → OneOutcome (TellsNumbers values mode list out)
 one-crafty-replay values mode list out = writes
 
 pub one-crafty-replay-text : (input out : List ℕ) → OneOutcome (TellsReplay input out)

@@ -23,11 +23,11 @@ use Rattle.action.specs.Price.{chargeOf}
 use Rattle.action.specs.declared.table.Amount.{Amount}
 use Rattle.action.specs.declared.table.Amount.the-variants.{Of, Nothing}
 use Rattle.action.specs.declared.table.Attributes.{Attributes}
-use Rattle.action_set.specs.Set.{keepOf}
+use Rattle.action_set.specs.Sets.{keepOf}
 use Rattle.craft_context.specs.declared.context.CraftContext.{CraftContext}
 use Rattle.craft_state.specs.declared.state.CraftState.{CraftState}
 use Rattle.craft_state.specs.Limits.{stepLeast, stateInside}
-use Rattle.craft_state.specs.Inside.{Given}
+use Rattle.craft_state.specs.Inside.{CraftIn}
 use Rattle.craft_state.specs.laws.Inside.{in-state}
 use Rattle.step.specs.Asked.{Where, Payable, Playable}
 use Rattle.step.specs.Step.{executeOf}
@@ -98,7 +98,7 @@ pub record Going (c : CraftContext) (s : CraftState) : Type 0 where
   pub early : s .step < c .«step_max»
   pub alive : raise (pos 0) < raise (s .durability)
 
-pub going : (c : CraftContext) (s : CraftState) → Given c s → ended c s ≡ false → Going c s
+pub going : (c : CraftContext) (s : CraftState) → CraftIn c s → ended c s ≡ false → Going c s
 going c s g e =
     let last = neither _ (leZ (s .durability) (pos 0)) e in
     let first = neither (leb (c .«progress_target») (s .progress)) (leb (c .«step_max») (s .step)) (last .0) in
@@ -110,7 +110,7 @@ module _ (c : CraftContext) (s : CraftState) (mode : Mode) (n : ℕ) (row : Attr
   unfolding allowedOf
   allowed-parts t = both (affords s n (row .«cp_cost»)) (mayImprove c s (row .«quality_efficiency»)) (both (affords s n (row .«cp_cost») && mayImprove c s (row .«quality_efficiency»)) (cond (mode .strict) (strictlyOf c s n row) (ownRule c s n row)) t .0)
 
-  pub allowed-playable : RowBounds n row → Given c s → n < actions → Going c s → allowedOf c s mode n row ≡ true → Playable c s n row
+  pub allowed-playable : RowBounds n row → CraftIn c s → n < actions → Going c s → allowedOf c s mode n row ≡ true → Playable c s n row
   allowed-playable bounds g h k t =
       let parts = allowed-parts t in
       record {
@@ -135,7 +135,7 @@ module _ (c : CraftContext) (s : CraftState) (mode : Mode) (n : ℕ) (row : Attr
 
 -- ---- by the table's row: what is among the moves may be executed, and its price is at most the points
 
-module _ (c : CraftContext) (s : CraftState) (mode : Mode) (n : ℕ) (g : Given c s) (h : n < actions) (t : has (movesOf c s mode) n ≡ true) where
+module _ (c : CraftContext) (s : CraftState) (mode : Mode) (n : ℕ) (g : CraftIn c s) (h : n < actions) (t : has (movesOf c s mode) n ≡ true) where
   pub legal-playable : Playable c s n (attributesOf n)
   legal-playable =
       let parts = both (not (ended c s)) (passesOf c s mode n) (sym (has-moves c s mode n h) ∙ t) in
@@ -156,7 +156,7 @@ module _ (c : CraftContext) (s : CraftState) (mode : Mode) (n : ℕ) (g : Given 
       let own = allowed-own c s mode n (attributesOf n) (both (has (c .«action_pool» .0) n) (allowsOf c s mode n) (parts .1) .1) in
       both (s .«quick_innovation_available») (eqb (s .buffs .innovation) 0) (subst (λ (m : ℕ). ownRule c s m (attributesOf n) ≡ true) e own) .0
 
-  pub legal-keeps : Given c (executeOf c s n)
+  pub legal-keeps : CraftIn c (executeOf c s n)
   legal-keeps = execute-in c s n (attributesOf n) (rows-bounded n h) legal-playable
 
   -- so the next state passes the tests of refusal 2

@@ -17,7 +17,7 @@ use Rattle.action.specs.declared.names.Found.the-variants as F
 use Rattle.rotation.specs.Gaps.{gap, letter}
 use Rattle.rotation.specs.Words.{Word, wordsFrom, allFound, firstUnknown}
 use Rattle.rotation.specs.laws.Words.{gaps-passed, one-word, words-end}
-use Rattle.rotation.specs.Next.{startFrom, endFrom, between, told, nextFrom, nextOf}
+use Rattle.rotation.specs.Next.{startFrom, endFrom, between, wordIs, nextFrom, nextOf}
 use Rattle.rotation.specs.declared.words.Next.{Next}
 use Rattle.rotation.specs.declared.words.Next.the-variants.{End, Unknown, Action}
 
@@ -60,7 +60,7 @@ module _ (text : List ℕ) {at : ℕ} (h : at ≤ length text) where
         let n : endFrom text start - start ≡ front letter (drop start text) = omega arith in
         (o .1, from-start ∙ simp n (simp drop-drop at (o .0)))
 
-    first : (found : Found) → wordsAt text at ≡ word (startFrom text at) found ∷ wordsAt text (endFrom text (startFrom text at)) → Follows text at (told (startFrom text at) (endFrom text (startFrom text at)) found)
+    first : (found : Found) → wordsAt text at ≡ word (startFrom text at) found ∷ wordsAt text (endFrom text (startFrom text at)) → Follows text at (wordIs (startFrom text at) (endFrom text (startFrom text at)) found)
     first (F.Action n) e =
         record {
           more = omega (arith, a-word .0);
@@ -91,6 +91,6 @@ module _ (text : List ℕ) (at : ℕ) {start : ℕ} (s : start ≡ startFrom tex
     pub end-within : end ≤ length text
     end-within = omega (arith, front-le letter (drop start text), length-drop start text)
 
-    pub next-found : {found : Found} → found ≡ foundOf (between text start end) → told start end found ≡ nextOf text at
+    pub next-found : {found : Found} → found ≡ foundOf (between text start end) → wordIs start end found ≡ nextOf text at
     unfolding nextOf
     next-found f = rw (sym s, lt-leb _ _ h, sym e, sym f)

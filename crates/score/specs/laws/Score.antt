@@ -16,7 +16,7 @@ use Rattle.craft_context.specs.declared.context.CraftContext.{CraftContext}
 use Rattle.craft_context.specs.Factor.{float}
 use Rattle.craft_state.specs.declared.state.CraftState.{CraftState}
 use Rattle.craft_state.specs.Limits.{stepMost}
-use Rattle.craft_state.specs.Inside.{Room, Given}
+use Rattle.craft_state.specs.Inside.{DurabilityIn, CraftIn}
 use Rattle.score.specs.Score.{one, progressBonus, qualityBonus, durabilityBonus, cpBonus, fewerStepsBonus, cappedOf, partOf, fewerOf, weighedOf, scoreOf}
 
 -- ---- zero of zero earns the full bonus
@@ -89,7 +89,7 @@ part-small bonus value target b =
     mul-small binary32 bonus _ 1 1 (lit≤ tt) b (capped-one _ (plus-div binary32 _ _ (plus-of-nat binary32 value) (plus-of-nat binary32 target)))
 
 -- durability may be below 0, by 19 at most
-durability-part-small : (d most : ℤ) → Room d most → Small (partOf durabilityBonus (ofInt binary32 d) (ofInt binary32 most)) 19
+durability-part-small : (d most : ℤ) → DurabilityIn d most → Small (partOf durabilityBonus (ofInt binary32 d) (ofInt binary32 most)) 19
 durability-part-small d (negsuc n) r = absurd (none n (r .above))
   where
     none : (n : ℕ) → 1000 < 999 - n → ⊥
@@ -140,7 +140,7 @@ module _ (step : ℕ) (started : 0 < step) (byte : step ≤ stepMost) where
 -- ---- the score
 
 -- the other four parts add up to 1 + 1 + 19 + 1 at most
-weighed-last : (context : CraftContext) (state : CraftState) → Given context state → (P : Float → Type 0)
+weighed-last : (context : CraftContext) (state : CraftState) → CraftIn context state → (P : Float → Type 0)
     → ((x : Float) → Small x 22 → P (add binary32 x (lastOf (state .step) (context .«step_max»))))
     → P (weighedOf context state)
 unfolding weighedOf
@@ -154,7 +154,7 @@ weighed-last context state given P last =
     (durability-part-small _ _ (given .state .room)))
     (part-small cpBonus _ _ cp-small))
 
-module _ (context : CraftContext) (state : CraftState) (given : Given context state) (byte : state .step ≤ stepMost) where
+module _ (context : CraftContext) (state : CraftState) (given : CraftIn context state) (byte : state .step ≤ stepMost) where
   -- step_max 0 gives minus infinity
   pub score-minus-inf : context .«step_max» ≡ 0 → scoreOf context state ≡ inf true
   unfolding scoreOf

@@ -10,7 +10,7 @@ use Rattle.laws.specs.Bits.{has, collect}
 use Rattle.laws.specs.laws.Lists.{elem}
 use Rattle.action.specs.Actions.{BasicSynthesis, BasicTouch, Observe, Veneration, StandardTouch, Innovation, BasicSynthesisTraited, ByregotsBlessing, MuscleMemory, CarefulSynthesis, Manipulation, PrudentTouch, AdvancedTouch, Reflect, PreparatoryTouch, Groundwork, CarefulSynthesisTraited, GroundworkTraited, PrudentSynthesis, QuickInnovation, TrainedPerfection}
 use Rattle.action.specs.Table.{actionOf}
-use Rattle.action_set.specs.Set.{setOf}
+use Rattle.action_set.specs.Sets.{setOf}
 use Rattle.craft_context.specs.declared.context.CraftContext.{CraftContext}
 use Rattle.craft_context.specs.Factor.{float}
 use Rattle.craft_state.specs.declared.state.CraftState.{CraftState}

@@ -19,7 +19,7 @@ use Rattle.craft_context.specs.Limits.{ContextIn}
 use Rattle.craft_state.specs.declared.state.CraftState.{CraftState}
 use Rattle.craft_state.specs.declared.state.Last.the-variants as L
 use Rattle.craft_state.specs.Limits.{stepLeast, stepMost}
-use Rattle.craft_state.specs.Inside.{Given}
+use Rattle.craft_state.specs.Inside.{CraftIn}
 use Rattle.craft_state.specs.laws.Inside.{start-in}
 use Rattle.craft_state.specs.Start.{startOf}
 use Rattle.step.specs.Step.{executeOf}
@@ -68,12 +68,12 @@ module _ (c : CraftContext) (mode : Mode) where
 
   -- ---- along a list whose actions are each legal where they stand
 
-  along-inside : (s : CraftState) (list : List ℕ) → Given c s → AllKnown list → EachLegal c mode s list → Given c (after c s list)
+  along-inside : (s : CraftState) (list : List ℕ) → CraftIn c s → AllKnown list → EachLegal c mode s list → CraftIn c (after c s list)
   unfolding EachLegal after
   along-inside s [] g h l = g
   along-inside s (n ∷ rest) g h l = along-inside (executeOf c s n) rest (legal-keeps c s mode n g (h .0) (l .0)) (h .1) (l .1)
 
-  along-points : (s : CraftState) (list : List ℕ) → Given c s → AllKnown list → EachLegal c mode s list → after c s list .cp + chargesOf c s list ≡ s .cp
+  along-points : (s : CraftState) (list : List ℕ) → CraftIn c s → AllKnown list → EachLegal c mode s list → after c s list .cp + chargesOf c s list ≡ s .cp
   unfolding EachLegal after chargesOf
   along-points s [] g h l = add-zero (s .cp)
   along-points s (n ∷ rest) g h l =
@@ -92,7 +92,7 @@ module _ (c : CraftContext) (mode : Mode) where
   abbrev quickLeft : CraftState → ℕ
   quickLeft s = cond (s .«quick_innovation_available») 1 0
 
-  along-few : c .«step_max» ≤ stepMost → (s : CraftState) (list : List ℕ) → s .step ≤ stepMost → Given c s → AllKnown list → EachLegal c mode s list → length list + s .step ≤ stepMost + quickLeft s
+  along-few : c .«step_max» ≤ stepMost → (s : CraftState) (list : List ℕ) → s .step ≤ stepMost → CraftIn c s → AllKnown list → EachLegal c mode s list → length list + s .step ≤ stepMost + quickLeft s
   unfolding EachLegal
   along-few top s [] b g h l = omega arith
   along-few top s (n ∷ rest) b given h l =

@@ -25,7 +25,7 @@ use Rattle.craft_state.specs.declared.buffs.Buffs.{Buffs}
 use Rattle.craft_state.specs.declared.state.CraftState.{CraftState}
 use Rattle.craft_state.specs.declared.state.Last.the-variants as L
 use Rattle.craft_state.specs.Limits.{comboAgrees}
-use Rattle.craft_state.specs.Inside.{Room, BuffsIn}
+use Rattle.craft_state.specs.Inside.{DurabilityIn, BuffsIn}
 use Rattle.step.specs.Durability.{mendedOf, mastersMends, mended-room, hurt-room}
 use Rattle.step.specs.Parts.{progressAfter, qualityAfter, quietAfter, quietLevel, doublesQuiet, usedUp, isActive, durabilityAfter, cpAfter, onBasicTouch, comboAfter, tickedOf, effectOf, mendAfter}
 use Rattle.step.specs.Asked.{Where, Payable, Progressing, Touching}
@@ -70,15 +70,15 @@ wear-at-most cost perfection wasteNot wasteNotII = go perfection (ltb 0 wasteNot
     go false true = omega arith
     go false false = le-refl cost
 
-pub durability-room : (s : CraftState) (most : ℤ) (cost : Amount) → Room (s .durability) most → raise (pos 0) < raise (s .durability) → AtMost wearMost cost → Room (durabilityAfter s cost) most
+pub durability-room : (s : CraftState) (most : ℤ) (cost : Amount) → DurabilityIn (s .durability) most → raise (pos 0) < raise (s .durability) → AtMost wearMost cost → DurabilityIn (durabilityAfter s cost) most
 durability-room s most (Of cost) r a h =
     hurt-room (s .durability) _ most r a (le-trans (wear-at-most cost (isActive (s .«trained_perfection_active»)) (s .buffs .«waste_not») (s .buffs .«waste_not_ii»)) h)
 durability-room s most Nothing r a h = r
 
-pub mend-room : (n : ℕ) (d most : ℤ) → Room d most → Room (mendAfter n d most) most
+pub mend-room : (n : ℕ) (d most : ℤ) → DurabilityIn d most → DurabilityIn (mendAfter n d most) most
 mend-room n d most r = go (eqb n A.MastersMend) (eqb n A.ImmaculateMend)
   where
-    go : (t u : Bool) → Room (cond t (mendedOf d mastersMends most) (cond u most d)) most
+    go : (t u : Bool) → DurabilityIn (cond t (mendedOf d mastersMends most) (cond u most d)) most
     go true u = mended-room d mastersMends most r (le-refl _)
     go false true = record { from = omega (arith, r .above); to = le-refl _; above = r .above; top = r .top }
     go false false = r

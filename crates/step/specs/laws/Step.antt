@@ -16,7 +16,7 @@ use Rattle.action.specs.declared.table.Attributes.{Attributes}
 use Rattle.craft_context.specs.declared.context.CraftContext.{CraftContext}
 use Rattle.craft_state.specs.declared.state.CraftState.{CraftState}
 use Rattle.craft_state.specs.Limits.{stepLeast}
-use Rattle.craft_state.specs.Inside.{Room, BuffsIn, StateIn, Given}
+use Rattle.craft_state.specs.Inside.{DurabilityIn, BuffsIn, StateIn, CraftIn}
 use Rattle.step.specs.Durability.{refreshed-room}
 use Rattle.step.specs.Parts.{stepAfter, comboAfter, tickedOf, quickAfter}
 use Rattle.step.specs.laws.Parts.{progress-at-most, progress-rises, quality-at-most, quality-rises, used-up-at-most, quiet-at-most, durability-room, mend-room, points-at-most, points-paid, combo-agrees, ticked-in, effect-in}
@@ -64,7 +64,7 @@ module _ (c : CraftContext) (s : CraftState) (n : ℕ) (row : Attributes) where
           quiet = p .given .state .buffs .quiet;
         }
 
-    pub improved-room : Room (improved .durability) (c .«durability_max»)
+    pub improved-room : DurabilityIn (improved .durability) (c .«durability_max»)
     unfolding begunOf progressedOf improvedOf
     improved-room = p .given .state .room
 
@@ -72,7 +72,7 @@ module _ (c : CraftContext) (s : CraftState) (n : ℕ) (row : Attributes) where
     unfolding begunOf progressedOf improvedOf
     improved-alive = p .alive
 
-    pub worn-room : Room (worn .durability) (c .«durability_max»)
+    pub worn-room : DurabilityIn (worn .durability) (c .«durability_max»)
     unfolding wornOf
     worn-room = durability-room improved (c .«durability_max») (row .«durability_cost») improved-room improved-alive (bounds .durability)
 
@@ -80,7 +80,7 @@ module _ (c : CraftContext) (s : CraftState) (n : ℕ) (row : Attributes) where
     unfolding begunOf progressedOf improvedOf wornOf refreshedOf
     refreshed-payable = p .payable
 
-    pub timed-room : Room (timed .durability) (c .«durability_max»)
+    pub timed-room : DurabilityIn (timed .durability) (c .«durability_max»)
     unfolding refreshedOf paidOf combinedOf timedOf
     timed-room = refreshed-room (worn .durability) (worn .buffs .manipulation) (c .«durability_max») worn-room
 
@@ -129,7 +129,7 @@ module _ (c : CraftContext) (s : CraftState) (n : ℕ) (row : Attributes) where
         step-least true = p .given .state .step
         step-least false = omega arith
 
-    pub execute-in : Given c (executedOf c s n row)
+    pub execute-in : CraftIn c (executedOf c s n row)
     execute-in = record { context = p .given .context; state = execute-keeps }
 
     -- points fall by exactly the price

@@ -15,7 +15,7 @@ use Rattle.text.specs.Hex.{hexOf}
 use Rattle.action.specs.Actions.{Veneration, BasicSynthesis}
 use Rattle.action.specs.Table.{actionOf}
 use Rattle.craft_context.specs.declared.context.CraftContext.{CraftContext}
-use Rattle.craft_state.specs.Line.{shareOf, signedShareOf, lineOf}
+use Rattle.craft_state.specs.Line.{shareOf, signedShareOf, displayOf}
 use Rattle.craft_state.specs.Start.{startOf}
 use Rattle.step.specs.Parts.{tickedOf, effectOf}
 use Rattle.step.specs.Step.{begunOf, progressedOf, improvedOf, wornOf, refreshedOf, paidOf, combinedOf, timedOf, affectedOf, executedOf}
@@ -56,7 +56,7 @@ pub example : transcriptOf craft (Veneration ∷ BasicSynthesis ∷ BasicSynthes
     ++ line "  300/  200 progress |     0/    0 quality | 20/40 durability |  82/100 cp"
     ++ line "finished 3F000000 executed 3 of 3"
 unfolding transcriptOf reportedOf rowOf rowsOf lastOf resultTextOf finishedOf
-    lineOf shareOf signedShareOf rightOf decimalOf signedOf hexOf
+    displayOf shareOf signedShareOf rightOf decimalOf signedOf hexOf
     replayOf replayFrom stopOf slipOf startOf movesOf allowedOf strictlyOf ownRule strictRule has collect elem
     executedOf begunOf progressedOf improvedOf wornOf refreshedOf paidOf combinedOf timedOf affectedOf tickedOf effectOf actionOf
     judgedBy scoreOf toBits ofBits ofInt sub div

@@ -4,7 +4,7 @@ use mathlib.Core.List.{[], _∷_}
 use borrow.Author.Needs.{needs}
 use Rattle.refusal.specs.laws.Judge.{alone, checks-stop, checks-on}
 use Rattle.action.specs.Known.{actionTest}
-use Rattle.action_set.specs.Set.{setTest}
+use Rattle.action_set.specs.Sets.{setTest}
 use Rattle.action_set.proofs.ActionSet.check_with.Statement.{statement}
 use Rattle.action_set.proofs.ActionSet.check_with.Tie as tie
 

@@ -4,8 +4,8 @@ use mathlib.Core.Path.{refl, ap}
 use mathlib.Core.List.{[]}
 use borrow.Author.Needs.{needs}
 use Rattle.refusal.specs.laws.Judge.{stopped-by, onward-by, answered}
-use Rattle.action_set.specs.Set.{memberTests}
-use Rattle.action_set.specs.laws.Set.{member-shown}
+use Rattle.action_set.specs.Sets.{memberTests}
+use Rattle.action_set.specs.laws.Sets.{member-shown}
 use Rattle.action_set.specs.declared.Asked.the-variants.{Is}
 use Rattle.action_set.proofs.ActionSet.contains.Statement.{statement}
 use Rattle.action_set.proofs.ActionSet.contains.Tie as tie

@@ -6,13 +6,13 @@ use borrow.Author.Needs.{needs}
 use Rattle.refusal.specs.laws.Judge.{stopped, onward, answered}
 use Rattle.laws.specs.laws.Bits.{highest-is, highest-none, top-member}
 use Rattle.action.specs.Known.{actions}
-use Rattle.action_set.specs.Set.{Inside, highestOf}
+use Rattle.action_set.specs.Sets.{SetIn, highestOf}
 use Rattle.action_set.specs.declared.Highest.the-variants.{Is, Empty}
-use Rattle.action_set.specs.laws.Set.{set-shown}
+use Rattle.action_set.specs.laws.Sets.{set-shown}
 use Rattle.action_set.proofs.ActionSet.highest.Statement.{statement}
 use Rattle.action_set.proofs.ActionSet.highest.Tie as tie
 
-inside : (c : tie.After-enum-told) → Inside (c .before .before .before .args .self .0)
+inside : (c : tie.After-enum-told) → SetIn (c .before .before .before .args .self .0)
 inside c = set-shown (c .before .before .check .ensures) (c .enum-told .given .1)
 
 pub highest-spec : {M : Type 1} → statement M

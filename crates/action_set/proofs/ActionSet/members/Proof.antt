@@ -7,8 +7,8 @@ use lib.ListN.{length}
 use borrow.Author.Needs.{needs}
 use Rattle.refusal.specs.Judge.{checkedOf, roomTest}
 use Rattle.refusal.specs.laws.Judge.{stopped-room, onward-room, answered-room, room-shown}
-use Rattle.action_set.specs.Set.{sizeOf}
-use Rattle.action_set.specs.laws.Set.{set-shown, members-size}
+use Rattle.action_set.specs.Sets.{sizeOf}
+use Rattle.action_set.specs.laws.Sets.{set-shown, members-size}
 use Rattle.action_set.specs.declared.Listed.the-variants.{Count}
 use Rattle.action_set.proofs.ActionSet.members.Statement.{statement}
 use Rattle.action_set.proofs.ActionSet.members.Tie as tie

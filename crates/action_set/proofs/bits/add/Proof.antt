@@ -4,8 +4,8 @@ use mathlib.Core.Path.{_≡_, sym, subst}
 use lib.Bits.{bitOr}
 use Rattle.laws.specs.laws.Bits.{or-bit}
 use Rattle.action.specs.Known.{actions}
-use Rattle.action_set.specs.Set.{Inside, withOf}
-use Rattle.action_set.specs.laws.Set.{set-inside}
+use Rattle.action_set.specs.Sets.{SetIn, withOf}
+use Rattle.action_set.specs.laws.Sets.{set-inside}
 use Rattle.action_set.proofs.bits.add.Statement.{statement}
 use Rattle.action_set.proofs.bits.add.Tie as tie
 
@@ -13,4 +13,4 @@ sum : (c : tie.After-bit) → bitOr (c .before .args .s) (c .bit .result) ≡ wi
 sum c = rw (c .bit .ensures) (or-bit actions _ _ (c .before .pre .0) (c .before .pre .1))
 
 pub add-spec : {M : Type 1} → statement M
-add-spec = tie.close (tie.spec (λ c κs. c .pre .1) (λ c. (sum c, subst Inside (sym (sum c)) (set-inside _))))
+add-spec = tie.close (tie.spec (λ c κs. c .pre .1) (λ c. (sum c, subst SetIn (sym (sum c)) (set-inside _))))

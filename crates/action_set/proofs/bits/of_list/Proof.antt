@@ -8,13 +8,13 @@ use lib.ListN.{length, drop, drop-of-length-le}
 use Rattle.laws.specs.laws.Lists.{elem}
 use Rattle.action.specs.Known.{actions}
 use Rattle.action.specs.laws.Known.{known-each}
-use Rattle.action_set.specs.Set.{Inside, setOf}
-use Rattle.action_set.specs.laws.Set.{joined, joined-start, joined-turn, joined-end}
+use Rattle.action_set.specs.Sets.{SetIn, setOf}
+use Rattle.action_set.specs.laws.Sets.{joined, joined-start, joined-turn, joined-end}
 use Rattle.action_set.proofs.bits.of_list.Statement.{statement}
 use Rattle.action_set.proofs.bits.of_list.Tie as tie
 
 abbrev Inv-loop : tie.InvT-loop
-Inv-loop list s₀ i₀ s i = (joined s (drop i list) ≡ setOf (elem list)) × Inside s
+Inv-loop list s₀ i₀ s i = (joined s (drop i list) ≡ setOf (elem list)) × SetIn s
 
 abbrev μ-loop : tie.MeasureT-loop
 μ-loop list s₀ i₀ s i = length list - i

@@ -1,7 +1,7 @@
 -- `compare_cases::of_sets::kept` is safe and ends.
 -- Assumes nothing.
 use borrow.Author.Needs.{needs}
-use Rattle.action_set.specs.laws.Set.{set-shown}
+use Rattle.action_set.specs.laws.Sets.{set-shown}
 use Rattle.compare_cases.proofs.of_sets.kept.Statement.{statement}
 use Rattle.compare_cases.proofs.of_sets.kept.Tie as tie
 

@@ -5,7 +5,7 @@ use borrow.Author.Needs.{needs}
 use mir.Syntax.{w8}
 use mir.Val.{toZ, ofZ}
 use mir.ValLaws.{toZ-ofZ}
-use Rattle.craft_context.specs.Build.{contextOf}
+use Rattle.craft_context.specs.Build.{builtOf}
 use Rattle.craft_context.proofs.build.build.Statement.{statement}
 use Rattle.craft_context.proofs.build.build.Tie as tie
 
@@ -14,7 +14,7 @@ back : (c : tie.After-struct-told) → toZ w8 (ofZ w8 (c .before .before .before
 back c = toZ-ofZ w8 _ (record { sfits = c .struct-told .given .1 .1 .1 .1 .1 .0 .1 })
 
 pub build-spec : {M : Type 1} → statement M
-unfolding contextOf
+unfolding builtOf
 build-spec =
     tie.close
     (tie.spec

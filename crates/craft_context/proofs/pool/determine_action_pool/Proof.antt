@@ -8,7 +8,7 @@ use borrow.Author.Tests.{not-true, not-false}
 use Rattle.laws.specs.laws.Bits.{has-low}
 use Rattle.laws.specs.laws.Walk.{Walk, start, done, falls, stays, goes}
 use Rattle.action.specs.Known.{actions}
-use Rattle.action_set.specs.laws.Set.{keep-all}
+use Rattle.action_set.specs.laws.Sets.{keep-all}
 use Rattle.craft_context.specs.Pool.{inPool}
 use Rattle.craft_context.proofs.pool.determine_action_pool.Statement.{statement}
 use Rattle.craft_context.proofs.pool.determine_action_pool.Tie as tie

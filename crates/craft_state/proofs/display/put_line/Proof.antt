@@ -9,7 +9,7 @@ use mir.Syntax.{w8}
 use mir.Val.{SFits, toZ, ofZ}
 use mir.ValLaws.{toZ-ofZ}
 use Rattle.text.specs.laws.Over.{then, put-as}
-use Rattle.craft_state.specs.Line.{signedShareOf, lineOf}
+use Rattle.craft_state.specs.Line.{signedShareOf, displayOf}
 use borrow.Author.Needs.{needs}
 use Rattle.craft_state.proofs.display.put_line.Statement.{statement}
 use Rattle.craft_state.proofs.display.put_line.Tie as tie
@@ -39,7 +39,7 @@ put-share-requires-3 c κs =
     )
 
 returns : tie.Need-returns
-unfolding lineOf
+unfolding displayOf
 returns c =
     let cp = c .before .before in
     let durability = cp .before .before .before .before .before in

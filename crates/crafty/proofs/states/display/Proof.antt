@@ -8,13 +8,13 @@ use Rattle.refusal.specs.Judge.{roomTest}
 use Rattle.refusal.specs.laws.Judge.{stopped-room-by, onward-room-by}
 use Rattle.text.specs.laws.Over.{Rendered, rendered}
 use Rattle.craft_state.specs.Limits.{givenTests}
-use Rattle.craft_state.specs.Line.{lineOf}
+use Rattle.craft_state.specs.Line.{displayOf}
 use Rattle.craft_state.specs.laws.Line.{line-short}
 use Rattle.crafty.specs.Room.{fits-as}
 use Rattle.crafty.proofs.states.display.Statement.{statement}
 use Rattle.crafty.proofs.states.display.Tie as tie
 
-lent : (c : tie.After-put-line) → Rendered (lineOf (c .before .before .before .before .before .before .args .context) (c .before .before .before .before .before .before .args .state)) (c .put-line .result) (c .put-line .last .1 .1 .0)
+lent : (c : tie.After-put-line) → Rendered (displayOf (c .before .before .before .before .before .before .args .context) (c .before .before .before .before .before .before .args .state)) (c .put-line .result) (c .put-line .last .1 .1 .0)
 lent c = rendered (c .put-line .ensures .0) (line-short _ _)
 
 pub display-spec : {M : Type 1} → statement M
@@ -25,7 +25,7 @@ display-spec =
     (λ c. search needs)
     (λ c.
     let k = c .before .before .before in
-    stopped-room-by (givenTests (k .before .before .args .context) (k .before .before .args .state)) (roomTest (length (k .before .before .args .out .now)) (length (lineOf (k .before .before .args .context) (k .before .before .args .state))) ∷ []) (k .check .ensures) (c .before .given .given .1) refl)
+    stopped-room-by (givenTests (k .before .before .args .context) (k .before .before .args .state)) (roomTest (length (k .before .before .args .out .now)) (length (displayOf (k .before .before .args .context) (k .before .before .args .state))) ∷ []) (k .check .ensures) (c .before .given .given .1) refl)
     (λ c. search needs)
     (λ c. search needs)
     (λ c κs. search needs)

@@ -6,7 +6,7 @@ use Prim.Native.Nat.{ℕ}
 use borrow.Author.Needs.{needs}
 use Rattle.refusal.specs.laws.Judge.{stopped-by, onward-by, answered}
 use Rattle.craft_state.specs.Limits.{givenTests}
-use Rattle.craft_state.specs.laws.Inside.{given-in}
+use Rattle.craft_state.specs.laws.Inside.{craft-in}
 use Rattle.crafty.specs.declared.states.Allowed.the-variants.{Moves}
 use Rattle.crafty.proofs.states.moves.Statement.{statement}
 use Rattle.crafty.proofs.states.moves.Tie as tie
@@ -19,7 +19,7 @@ moves-spec =
     (λ c. search needs)
     (λ c. let k = c .before .before .before in stopped-by (givenTests (k .before .args .context) (k .before .args .state)) [] (k .check .ensures) (c .before .given .given .1))
     (λ c. search needs)
-    (λ c κs. given-in _ _ (c .before .before .check .ensures) (c .enum-told .given .1))
+    (λ c κs. craft-in _ _ (c .before .before .check .ensures) (c .enum-told .given .1))
     (λ c.
     let k = c .before .before .before in
     onward-by (givenTests (k .before .args .context) (k .before .args .state)) [] (k .check .ensures) (c .before .enum-told .given .1) (answered refl (ap (λ (set : ℕ). Moves (record { 0 = set })) (c .legal-moves .ensures .0)))))

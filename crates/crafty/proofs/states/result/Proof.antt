@@ -5,7 +5,7 @@ use mathlib.Core.List.{[]}
 use borrow.Author.Needs.{needs}
 use Rattle.refusal.specs.laws.Judge.{stopped-by, onward-by, answered}
 use Rattle.craft_state.specs.Limits.{givenTests}
-use Rattle.craft_state.specs.laws.Inside.{given-in}
+use Rattle.craft_state.specs.laws.Inside.{craft-in}
 use Rattle.crafty.specs.declared.states.Judged.the-variants.{Result}
 use Rattle.crafty.proofs.states.result.Statement.{statement}
 use Rattle.crafty.proofs.states.result.Tie as tie
@@ -18,7 +18,7 @@ result-spec =
     (λ c. search needs)
     (λ c. let k = c .before .before .before in (stopped-by (givenTests (k .before .args .context) (k .before .args .state)) [] (k .check .ensures) (c .before .given .given .1), tt))
     (λ c. search needs)
-    (λ c κs. given-in _ _ (c .before .before .check .ensures) (c .enum-told .given .1))
+    (λ c κs. craft-in _ _ (c .before .before .check .ensures) (c .enum-told .given .1))
     (λ c.
     let k = c .before .before .before in
     (onward-by (givenTests (k .before .args .context) (k .before .args .state)) [] (k .check .ensures) (c .before .enum-told .given .1) (answered refl (ap Result (c .check-result .ensures .0))), c .check-result .ensures .1)))

@@ -10,8 +10,8 @@ use Rattle.laws.specs.Bits.{has}
 use Rattle.action.specs.Known.{actionTest}
 use Rattle.action.specs.laws.Known.{action-shown}
 use Rattle.craft_state.specs.Limits.{givenTests}
-use Rattle.craft_state.specs.Inside.{Given}
-use Rattle.craft_state.specs.laws.Inside.{given-in}
+use Rattle.craft_state.specs.Inside.{CraftIn}
+use Rattle.craft_state.specs.laws.Inside.{craft-in}
 use Rattle.step.specs.Step.{executeOf}
 use Rattle.moves.specs.Moves.{movesOf}
 use Rattle.moves.specs.laws.Moves.{legal-playable}
@@ -29,8 +29,8 @@ answer : tie.Start → Stepped
 answer s = To (executeOf (s .args .context) (s .args .state) (s .args .n))
 
 -- context and state are inside the limits, so the later tests decide
-inside : (c : tie.After-enum-told) → Given (c .before .before .before .args .context) (c .before .before .before .args .state)
-inside c = given-in _ _ (c .before .before .check .ensures) (c .enum-told .given .1)
+inside : (c : tie.After-enum-told) → CraftIn (c .before .before .before .args .context) (c .before .before .before .args .state)
+inside c = craft-in _ _ (c .before .before .check .ensures) (c .enum-told .given .1)
 
 began : (c : tie.After-enum-told) {r : Stepped}
     → Says stepped (later (c .before .before .before)) (answer (c .before .before .before)) r

@@ -9,7 +9,7 @@ use mir.ValLaws.{toZ-ofZ}
 use borrow.Author.Needs.{needs}
 use Rattle.score.specs.Result.{verdictOf}
 use Rattle.simulator.specs.declared.replay.Replay.{Replay}
-use Rattle.crafty_c.specs.Numbers.{scoreNumber, wordOf, comboNumber, perfectionNumber, lastNumber, flagNumber, numbersOf}
+use Rattle.crafty_c.specs.Numbers.{scoreNumber, wordOf, comboNumber, perfectionNumber, lastNumber, flagNumber, replayNumbers}
 use Rattle.crafty_c.proofs.numbers.numbers.Statement.{statement}
 use Rattle.crafty_c.proofs.numbers.numbers.Tie as tie
 
@@ -45,7 +45,7 @@ module _ (report : Replay) where
       ∷ report .state .buffs .«muscle_memory»
       ∷ last
       ∷ []
-      ≡ numbersOf report
+      ≡ replayNumbers report
   put-together a b d e f g h = rw (a, b, d, e, f, g, h)
 
 durable : (c : tie.Start) → SFits w8 (c .args .report .state .durability)

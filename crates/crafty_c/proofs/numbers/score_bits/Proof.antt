@@ -2,7 +2,7 @@
 -- Assumes nothing.
 use mathlib.Core.Path.{subst}
 use borrow.Author.Needs.{needs}
-use Rattle.score.specs.Result.{Sound}
+use Rattle.score.specs.Result.{ScoreIsNumber}
 use Rattle.crafty_c.proofs.numbers.score_bits.Statement.{statement}
 use Rattle.crafty_c.proofs.numbers.score_bits.Tie as tie
 
@@ -11,7 +11,7 @@ score-bits-spec =
     tie.close
     (tie.spec
     (λ c. search needs)
-    (λ c. subst Sound (c .before .result .given .1) (c .before .before .before .pre))
+    (λ c. subst ScoreIsNumber (c .before .result .given .1) (c .before .before .before .pre))
     (λ c. search needs)
     (λ c. search needs)
     (λ c. search needs)

@@ -9,7 +9,7 @@ use Rattle.context_line.specs.declared.fields.Read.the-variants as R
 use Rattle.context_line.specs.Fields.{contextOf, numberTests}
 use Rattle.context_line.specs.Read.{read}
 use Rattle.context_line.specs.laws.Read.{read-context, read-refused, numbers-inside}
-use Rattle.crafty_c.specs.Replays.{Reports, reportTests}
+use Rattle.crafty_c.specs.Reports.{Reports, reportTests}
 use Rattle.crafty_c.proofs.replays.replay.Statement.{statement}
 use Rattle.crafty_c.proofs.replays.replay.Tie as tie
 

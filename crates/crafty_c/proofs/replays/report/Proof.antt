@@ -14,7 +14,7 @@ use Rattle.action.specs.Known.{knownFront}
 use Rattle.action.specs.laws.Known.{list-shown}
 use Rattle.craft_state.specs.Limits.{stepMost}
 use Rattle.simulator.specs.laws.Promise.{all-known, promised}
-use Rattle.crafty_c.specs.Numbers.{numbersLength, numbersOf}
+use Rattle.crafty_c.specs.Numbers.{numbersLength, replayNumbers}
 use Rattle.crafty_c.proofs.replays.report.Statement.{statement}
 use Rattle.crafty_c.proofs.replays.report.Tie as tie
 
@@ -35,7 +35,7 @@ few c =
     let s = c .before .before .before .before .before .before .before .before .before in
     rw (c .execute-actions .ensures .0) (promised (s .args .context) (s .args .mode) (s .pre) (omega (arith, byte s)) (s .args .list .now) (all-known (s .args .list .now) (known (c .before))) .few)
 
-told : (c : tie.After-numbers) → c .numbers .result ≡ numbersOf (c .before .execute-actions .result)
+told : (c : tie.After-numbers) → c .numbers .result ≡ replayNumbers (c .before .execute-actions .result)
 told c = c .numbers .ensures
 
 pub report-spec : {M : Type 1} → statement M
@@ -61,5 +61,5 @@ report-spec =
     (λ c. search needs)
     (λ c.
     let k = c .before .before .before .before .before .before .before .before in
-    let same = c .before .before .before .put-numbers .ensures ∙ ap (λ (t : List ℕ). over (k .before .before .before .before .before .before .before .before .args .out .now) 0 t) (told (c .before .before .before .before .before .before) ∙ ap numbersOf (c .before .before .before .before .before .before .before .execute-actions .ensures .0)) in
+    let same = c .before .before .before .put-numbers .ensures ∙ ap (λ (t : List ℕ). over (k .before .before .before .before .before .before .before .before .args .out .now) 0 t) (told (c .before .before .before .before .before .before) ∙ ap replayNumbers (c .before .before .before .before .before .before .before .execute-actions .ensures .0)) in
     rw (c .done .ensures) (onward-room (k .before .before .before .before .before .check-list .ensures) (k .before .before .before .enum-told .given .1) (onward-room (k .before .before .check-room .ensures) (k .enum-told2 .given .1) (answered-room refl refl same)))))

@@ -6,4 +6,4 @@ use Rattle.crafty_c.proofs.texts.crafty_read_list.Statement.{statement}
 use Rattle.crafty_c.proofs.texts.crafty_read_list.Tie as tie
 
 pub crafty-read-list-spec : {M : Type 1} → statement M
-crafty-read-list-spec = tie.close (tie.spec (λ c κs. tt) (λ c κs. tt) (λ c. search needs) (λ c. rw (c .told .ensures) (writes-told (c .before .before .before .read-list .ensures))))
+crafty-read-list-spec = tie.close (tie.spec (λ c κs. tt) (λ c κs. tt) (λ c. search needs) (λ c. rw (c .wrote .ensures) (writes-told (c .before .before .before .read-list .ensures))))

@@ -6,4 +6,4 @@ use Rattle.crafty_c.proofs.texts.crafty_write_list.Statement.{statement
 use Rattle.crafty_c.proofs.texts.crafty_write_list.Tie as tie
 
 pub crafty-write-list-spec : {M : Type 1} → statement M
-crafty-write-list-spec = tie.close (tie.spec (λ c κs. tt) (λ c κs. tt) (λ c. search needs) (λ c. rw (c .told .ensures) (writes-told (c .before .before .before .write-list .ensures))))
+crafty-write-list-spec = tie.close (tie.spec (λ c κs. tt) (λ c κs. tt) (λ c. search needs) (λ c. rw (c .wrote .ensures) (writes-told (c .before .before .before .write-list .ensures))))

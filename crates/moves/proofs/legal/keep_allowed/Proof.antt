@@ -7,7 +7,7 @@ use borrow.Author.Tests.{not-true, not-false}
 use Rattle.laws.specs.laws.Bits.{has-low}
 use Rattle.laws.specs.laws.Walk.{Walk, start, done, falls, stays, goes}
 use Rattle.action.specs.Known.{actions}
-use Rattle.action_set.specs.Set.{Inside}
+use Rattle.action_set.specs.Sets.{Inside}
 use Rattle.moves.specs.Moves.{allowsOf}
 use Rattle.moves.proofs.legal.keep_allowed.Statement.{statement}
 use Rattle.moves.proofs.legal.keep_allowed.Tie as tie

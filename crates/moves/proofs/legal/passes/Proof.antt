@@ -9,7 +9,7 @@ use lib.Pow.{pow-lt}
 use Rattle.laws.specs.Bits.{has}
 use Rattle.laws.specs.laws.Bits.{has-top, has-keep}
 use Rattle.action.specs.Known.{actions}
-use Rattle.action_set.specs.Set.{Inside}
+use Rattle.action_set.specs.Sets.{Inside}
 use Rattle.moves.specs.Moves.{allowsOf}
 use Rattle.moves.proofs.legal.passes.Statement.{statement}
 use Rattle.moves.proofs.legal.passes.Tie as tie

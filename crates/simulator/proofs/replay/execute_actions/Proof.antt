@@ -9,7 +9,7 @@ use borrow.Author.Tests.{not-true, not-false}
 use Rattle.action.specs.Known.{actions}
 use Rattle.action.specs.laws.Known.{known-each}
 use Rattle.craft_state.specs.declared.state.CraftState.{CraftState}
-use Rattle.craft_state.specs.Inside.{Given}
+use Rattle.craft_state.specs.Inside.{CraftIn}
 use Rattle.craft_state.specs.laws.Inside.{start-in}
 use Rattle.moves.specs.Moves.{ended, passesOf}
 use Rattle.moves.specs.laws.Moves.{legal-keeps, legal-playable}
@@ -20,7 +20,7 @@ use Rattle.simulator.proofs.replay.execute_actions.Tie as tie
 
 -- what is left of the list gives the whole replay, and the state is inside the limits
 abbrev Inv-loop : tie.InvT-loop
-Inv-loop context mode list state₀ i₀ state i = (i ≤ length list) × (replayFrom context mode state i (drop i list) ≡ replayOf context mode list) × Given context state
+Inv-loop context mode list state₀ i₀ state i = (i ≤ length list) × (replayFrom context mode state i (drop i list) ≡ replayOf context mode list) × CraftIn context state
 
 abbrev μ-loop : tie.MeasureT-loop
 μ-loop context mode list state₀ i₀ state i = length list - i
@@ -47,7 +47,7 @@ execute-actions-spec =
     Inv-loop
     μ-loop
     (λ c κs. tt)
-    (λ c. (omega arith, simp (c .fresh .ensures), subst (Given _) (sym (c .fresh .ensures)) (start-in _ (c .before .before .pre .0))))
+    (λ c. (omega arith, simp (c .fresh .ensures), subst (CraftIn _) (sym (c .fresh .ensures)) (start-in _ (c .before .before .pre .0))))
     (λ c κs. tt)
     (λ c κs. c .before .before .loop .inv .2)
     (λ c κs. c .before .before .before .loop .inv .2)
@@ -67,7 +67,7 @@ execute-actions-spec =
     let to = c .execute .ensures in
     let on = place-on _ _ (l .state) (s .args .list .now) (l .i) (omega arith) (known k) (going (k .before .before)) (passed (c .before)) in
     let inside = legal-keeps _ (l .state) _ _ (l .inv .2) (known k) (legal-is _ _ (l .state) _ (known k) (going (k .before .before)) (passed (c .before))) in
-    (omega arith, ap (λ (x : CraftState). replayFrom (s .args .context) (s .args .mode) x (l .i + 1) (drop (l .i + 1) (s .args .list .now))) to ∙ sym on ∙ l .inv .1, subst (Given (s .args .context)) (sym to) inside))
+    (omega arith, ap (λ (x : CraftState). replayFrom (s .args .context) (s .args .mode) x (l .i + 1) (drop (l .i + 1) (s .args .list .now))) to ∙ sym on ∙ l .inv .1, subst (CraftIn (s .args .context)) (sym to) inside))
     (λ c.
     let e = c .before .before in
     let l = e .before .loop in

@@ -2,7 +2,7 @@
 -- Assumes nothing.
 use mathlib.Core.Path.{subst}
 use native.Mathlib.Omega.{arith}
-use Rattle.score.specs.Result.{Sound}
+use Rattle.score.specs.Result.{ScoreIsNumber}
 use Rattle.transcript.specs.Transcript.{resultTextOf}
 use Rattle.transcript.specs.laws.Transcript.{result-put}
 use borrow.Author.Needs.{needs}
@@ -15,7 +15,7 @@ put-result-spec =
     tie.close
     (tie.spec
     (λ c. search needs)
-    (λ c κs. (subst Sound (c .before .before .result .given .1) (c .before .before .before .before .before .pre .0), omega arith))
+    (λ c κs. (subst ScoreIsNumber (c .before .before .result .given .1) (c .before .before .before .before .before .pre .0), omega arith))
     (λ c. search needs)
     (λ c. search needs)
     (λ c κs. search needs)

@@ -6,7 +6,7 @@ use native.Mathlib.Omega.{arith}
 use lib.ListN.{length, drop}
 use Rattle.text.specs.Over.{over}
 use Rattle.text.specs.laws.Over.{over-none}
-use Rattle.craft_state.specs.Inside.{Given}
+use Rattle.craft_state.specs.Inside.{CraftIn}
 use Rattle.moves.specs.laws.Moves.{plain, legal-playable, legal-keeps}
 use Rattle.transcript.specs.Transcript.{rowMost, rowsOf}
 use Rattle.transcript.specs.laws.Transcript.{Played, next-known, next-legal, rest-played, rows-over, rows-count, rows-end, rows-short}
@@ -16,7 +16,7 @@ use Rattle.transcript.proofs.rows.put_rows.Tie as tie
 abbrev Inv-loop : tie.InvT-loop
 Inv-loop context part out₀ at state₀ end₀ i₀ out state end i =
     (i ≤ length part)
-    × Given context state
+    × CraftIn context state
     × Played context state (drop i part)
     × (over out end (rowsOf context state (drop i part)) ≡ over out₀ end₀ (rowsOf context state₀ part))
     × (end + length (rowsOf context state (drop i part)) ≡ end₀ + length (rowsOf context state₀ part))
@@ -47,7 +47,7 @@ loop-again c =
     let e = turn .execute .ensures in
     let p = row .put-row .ensures .0 in (
       omega arith,
-      subst (Given _) (sym e) (legal-keeps _ (l .state) plain _ (l .inv .1) (next-known _ (l .state) _ h (l .inv .2)) (next-legal _ (l .state) _ h (l .inv .2))),
+      subst (CraftIn _) (sym e) (legal-keeps _ (l .state) plain _ (l .inv .1) (next-known _ (l .state) _ h (l .inv .2)) (next-legal _ (l .state) _ h (l .inv .2))),
       rest-played _ (l .state) _ h e (l .inv .2),
       rows-over _ (l .state) _ h e p ∙ l .inv .3,
       rows-count _ (l .state) _ h e p ∙ l .inv .4,

@@ -8,7 +8,7 @@ use mir.Syntax.{w8}
 use mir.Val.{Fits}
 use Rattle.text.specs.laws.Over.{then, put-as}
 use Rattle.craft_state.specs.declared.state.CraftState.{CraftState}
-use Rattle.craft_state.specs.Inside.{Given}
+use Rattle.craft_state.specs.Inside.{CraftIn}
 use Rattle.craft_state.specs.laws.Inside.{start-in}
 use Rattle.moves.specs.laws.Moves.{plain}
 use Rattle.simulator.specs.Promise.{Promise}
@@ -38,7 +38,7 @@ put-rows-requires c κs =
     let replayed = fresh .before in
     let s = start-of replayed in
     let e = fresh .fresh .ensures in (
-      subst (Given (s .args .context)) (sym e) (start-in (s .args .context) (s .pre .0)),
+      subst (CraftIn (s .args .context)) (sym e) (start-in (s .args .context) (s .pre .0)),
       subst (λ (x : CraftState). Played (s .args .context) x (take (replayed .execute-actions .result .executed) (s .args .list .now))) (sym e)
           (executed-played (s .args .context) (s .args .list .now) (s .pre .0) (omega (arith, byte s)) (s .pre .1) (replayed .execute-actions .ensures .0)),
       omega (arith, c .before .before .before .before .put-row .ensures .1, promise replayed .few, part-length replayed),

@@ -6,7 +6,7 @@ use borrow.Author.Needs.{needs}
 use Rattle.refusal.specs.Judge.{Test, checksOf}
 use Rattle.refusal.specs.laws.Judge.{stopped-by, onward-by, answered}
 use Rattle.craft_context.specs.Limits.{buildTests, contextTests}
-use Rattle.craft_context.specs.Build.{contextOf}
+use Rattle.craft_context.specs.Build.{builtOf}
 use Rattle.craft_context.specs.laws.Build.{buildable}
 use Rattle.craft_context.specs.declared.context.CraftContext.{CraftContext}
 use Rattle.craft_context.specs.declared.build.Built.the-variants.{Context}
@@ -17,7 +17,7 @@ first : tie.Start → List Test
 first c = buildTests (c .args .player) (c .args .recipe)
 
 later : tie.Start → List Test
-later c = contextTests (contextOf (c .args .player) (c .args .recipe) (c .args .options))
+later c = contextTests (builtOf (c .args .player) (c .args .recipe) (c .args .options))
 
 -- the context that is tested is the one that the definition builds
 tested : (c : tie.After-check) → c .check .result ≡ checksOf (later (c .before .before .before .before .before))

@@ -20,17 +20,17 @@ use Rattle.refusal.specs.declared.Checked.the-variants.{Passed}
 use Rattle.refusal.specs.Judge.{checkedOf, checksOf}
 use Rattle.refusal.specs.laws.Judge.{alone, shown}
 use Rattle.action.specs.Known.{actions, actionTest}
-use Rattle.action_set.specs.Set.{Inside, setTest, memberTests, setOf, withOf, keepOf, sizeOf, upward, membersOf}
+use Rattle.action_set.specs.Sets.{SetIn, setTest, memberTests, setOf, withOf, keepOf, sizeOf, upward, membersOf}
 
-pub set-shown : {s : ℕ} {checked : Checked} → checked ≡ checkedOf (setTest s) → checked ≡ Passed → Inside s
+pub set-shown : {s : ℕ} {checked : Checked} → checked ≡ checkedOf (setTest s) → checked ≡ Passed → SetIn s
 set-shown {s} e p = ltb-true s (2 ^ actions) (shown (setTest s) [] (alone (setTest s) e) p .0)
 
-pub member-shown : (s n : ℕ) {checked : Checked} → checked ≡ checksOf (memberTests s n) → checked ≡ Passed → Inside s × (n < actions)
+pub member-shown : (s n : ℕ) {checked : Checked} → checked ≡ checksOf (memberTests s n) → checked ≡ Passed → SetIn s × (n < actions)
 member-shown s n e p =
     let first = shown (setTest s) (actionTest n ∷ []) e p in
     (ltb-true s (2 ^ actions) (first .0), ltb-true n actions (shown (actionTest n) [] (first .1) p .0))
 
-pub set-inside : (p : ℕ → Bool) → Inside (setOf p)
+pub set-inside : (p : ℕ → Bool) → SetIn (setOf p)
 set-inside p = collect-lt p actions
 
 -- ---- s and the numbers of a list
@@ -51,7 +51,7 @@ joined-next s n rest =
 pub joined-turn : (list : List ℕ) (i s : ℕ) {r : ℕ} → i < length list → r ≡ withOf s (getD list i 0) → joined r (drop (i + 1) list) ≡ joined s (drop i list)
 joined-turn list i s {r} h e = ap (λ (x : ℕ). joined x (drop (i + 1) list)) e ∙ joined-next s (getD list i 0) (drop (i + 1) list) ∙ ap (joined s) (sym (drop-at list i h))
 
-pub joined-end : (s : ℕ) → Inside s → joined s [] ≡ s
+pub joined-end : (s : ℕ) → SetIn s → joined s [] ≡ s
 unfolding elem
 joined-end s h = collect-same (λ m. has s m || false) (has s) actions (λ m l. or-false (has s m)) ∙ set-of-has actions s h
 

@@ -1,11 +1,11 @@
--- `crafty_c::answer::told` meets its contract.
+-- `crafty_c::answer::wrote` meets its contract.
 -- Assumes nothing.
 use borrow.Author.Needs.{needs}
-use Rattle.crafty_c.proofs.answer.told.Statement.{statement}
-use Rattle.crafty_c.proofs.answer.told.Tie as tie
+use Rattle.crafty_c.proofs.answer.wrote.Statement.{statement}
+use Rattle.crafty_c.proofs.answer.wrote.Tie as tie
 
-pub told-spec : {M : Type 1} → statement M
-told-spec =
+pub wrote-spec : {M : Type 1} → statement M
+wrote-spec =
     tie.close
     (tie.spec
     (λ c. search needs)

@@ -9,8 +9,8 @@ use Rattle.refusal.specs.Judge.{Test}
 use Rattle.refusal.specs.declared.Refusal.the-variants.{OutsideLimits}
 use Rattle.action.specs.Known.{actions, actionTest}
 
-abbrev pub Inside : ℕ → Type 0
-Inside s = s < 2 ^ actions
+abbrev pub SetIn : ℕ → Type 0
+SetIn s = s < 2 ^ actions
 
 -- refusal 1: bit 31 of a set is clear
 abbrev pub setTest : ℕ → Test

@@ -12,7 +12,7 @@ use Rattle.moves.specs.declared.mode.Mode.{Mode}
 use Rattle.simulator.specs.Replay.{replayOf}
 use Rattle.crafty_c.specs.declared.answer.CraftyAnswer.{CraftyAnswer}
 use Rattle.crafty_c.specs.Answer.{doneOf, answered}
-use Rattle.crafty_c.specs.Numbers.{numbersLength, numbersOf}
+use Rattle.crafty_c.specs.Numbers.{numbersLength, replayNumbers}
 
 -- refusal 3 over the whole list, and refusal 6 of the lent numbers
 abbrev pub reportTests : List ℕ → List ℕ → List Test
@@ -20,12 +20,12 @@ reportTests list out = listTest list ∷ roomTest (length out) numbersLength ∷
 
 -- what is written from the start of the lent numbers, and none further
 abbrev reported : CraftContext → Mode → List ℕ → List ℕ → List ℕ
-reported context mode list out = over out 0 (numbersOf (replayOf context mode list))
+reported context mode list out = over out 0 (replayNumbers (replayOf context mode list))
 
 -- in a context inside its limits
 abbrev pub Reports : CraftContext → Mode → List ℕ → List ℕ → CraftyAnswer → List ℕ → Type 0
 Reports context mode list out r after = Writes answered (reportTests list out) (doneOf numbersLength) out (reported context mode list out) r after
 
 -- in a context given by its numbers: refusal 1 for one that does not fit its field or is outside its limit
-abbrev pub Replays : List ℕ → Mode → List ℕ → List ℕ → CraftyAnswer → List ℕ → Type 0
-Replays values mode list out r after = Writes answered (numberTests values ++ reportTests list out) (doneOf numbersLength) out (reported (contextOf values) mode list out) r after
+abbrev pub TellsNumbers : List ℕ → Mode → List ℕ → List ℕ → CraftyAnswer → List ℕ → Type 0
+TellsNumbers values mode list out r after = Writes answered (numberTests values ++ reportTests list out) (doneOf numbersLength) out (reported (contextOf values) mode list out) r after
