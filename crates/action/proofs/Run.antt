@@ -8,9 +8,10 @@ use Prim.Native.String.{String}
 use lib.Dec.{T, leb, leb→le}
 use lib.ListN.{length, take, drop, getD}
 use Rattle.laws.specs.laws.Tests.{and-left, and-right}
-use Rattle.laws.specs.laws.Same.{same, same→eq, below-at}
+use Rattle.laws.specs.laws.Same.{same→eq, below-at}
 use Rattle.text.specs.Bytes.{bytes}
 use Rattle.action.specs.Texts.{texts, entryOf, entryCount}
+use Rattle.laws.specs.Lists.{same}
 
 unfoldable pub run : List String → List ℕ
 run [] = []

@@ -4,8 +4,7 @@ use mathlib.Core.Bool.{Bool, true, false, cond}
 use mathlib.Core.List.{List, [], _∷_, _++_}
 use Prim.Native.Nat.{ℕ, zero, suc, _+_}
 use Rattle.text.specs.Bytes.{bytes}
-use Rattle.laws.specs.laws.Same.{same}
-use Rattle.laws.specs.laws.Lists.{elem}
+use Rattle.laws.specs.Lists.{same, elem}
 use Rattle.action.specs.Table.{Action, actionOf, attributesOf}
 use Rattle.action.specs.Known.{actions}
 use Rattle.action.specs.Wait.{waitOf}

@@ -3,7 +3,7 @@ ghost use mathlib.Core.Path.{_≡_};
 ghost use Prim.Native.Nat.{_+_, _≤_, _<_};
 ghost use lib.ListN.{length};
 ghost use Rattle.text.specs.Over.{Put};
-ghost use Rattle.laws.specs.laws.Same.{same as Same·same};
+ghost use Rattle.laws.specs.Lists.{same as Same·same};
 ghost use Rattle.action.specs.Known.{actions};
 ghost use Rattle.action.specs.Names.{nameOf, labelOf, foundOf};
 ghost use Rattle.action.specs.Texts.{entryOf, entryCount, shortest, longest, keyOf};

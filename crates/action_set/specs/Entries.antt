@@ -5,10 +5,11 @@ use mathlib.Core.List.{List, [], _∷_}
 use Prim.Native.Nat.{ℕ}
 use lib.Dec.{eqb}
 use lib.ListN.{length}
+use Rattle.refusal.specs.declared.Checked.{Checked}
 use Rattle.refusal.specs.declared.Report.{Report}
 use Rattle.refusal.specs.Report.{reportOf, success}
-use Rattle.refusal.specs.Judge.{Kind, Says, Writes, roomTest}
-use Rattle.laws.specs.laws.Lists.{elem}
+use Rattle.refusal.specs.Judge.{Kind, Says, Writes, Checks, roomTest}
+use Rattle.laws.specs.Lists.{elem}
 use Rattle.laws.specs.Bits.{has}
 use Rattle.text.specs.Over.{over}
 use Rattle.action.specs.Known.{listTest}
@@ -67,6 +68,9 @@ list = record { told = listedTold; refused = L.Refused; refusing = λ x. refl }
 -- the answer that is a set
 abbrev pub aSet : ℕ → Changed
 aSet s = C.Set (record { 0 = s })
+
+abbrev pub ChecksSet : ℕ → Checked → Type 0
+ChecksSet s r = Checks (setTest s ∷ []) r
 
 abbrev pub FromBits : ℕ → Changed → Type 0
 FromBits s r = Says changed (setTest s ∷ []) (aSet s) r

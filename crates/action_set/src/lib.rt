@@ -1,8 +1,8 @@
 // Sets of actions: 31 bits, bit n for action n. Every method takes any number, and refuses what is outside the limits.
 ghost use mathlib.Core.Path.{_≡_};
-ghost use Rattle.refusal.specs.Judge.{checkedOf, checksOf};
-ghost use Rattle.action_set.specs.Sets.{setTest, memberTests};
-ghost use Rattle.action_set.specs.Entries.{FromBits, FromList, Contains, Added, Removed, Len, IsEmpty, HighestIs, Members};
+ghost use Rattle.refusal.specs.Judge.{checksOf};
+ghost use Rattle.action_set.specs.Sets.{memberTests};
+ghost use Rattle.action_set.specs.Entries.{ChecksSet, FromBits, FromList, Contains, Added, Removed, Len, IsEmpty, HighestIs, Members};
 use refusal::Checked;
 use refusal::Refusal;
 
@@ -54,7 +54,7 @@ impl ActionSet {
 
     // Refusal 1: bit 31 is set.
     pub fn check(self) -> Checked
-        ensures { λ r. ⌜ r ≡ checkedOf (setTest (self .0)) ⌝ }
+        ensures { λ r. ⌜ ChecksSet (self .0) r ⌝ }
     {
         let bits = self.0;
         if bits < ActionSet::LIMIT {

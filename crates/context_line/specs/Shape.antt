@@ -6,7 +6,7 @@ use mathlib.Core.List.{List, [], _∷_}
 use Prim.Native.Nat.{ℕ, zero, suc, _-_, _≤_, _<_}
 use lib.Dec.{leb, eqb}
 use lib.ListN.{length, take, drop, getD, replicate}
-use Rattle.laws.specs.laws.Front.{front}
+use Rattle.laws.specs.Lists.{front}
 use Rattle.refusal.specs.Judge.{Test}
 use Rattle.refusal.specs.declared.Refusal.the-variants.{MalformedLine}
 use Rattle.text.specs.Reading.{valueOf}

@@ -2,13 +2,9 @@
 -- Assumes nothing.
 use mathlib.Core.Bool.{Bool, cond}
 use Prim.Native.Nat.{ℕ, _*_, _≤_, _<_}
-use lib.IntN.{pos}
 use Rattle.craft_context.specs.Limits.{statMost, divMost, modMost}
-use lib.Ieee.{Float, binary32, ofBits, ofInt, toUnsigned, add, mul, div}
-
--- a whole number `as f32`
-abbrev pub float : ℕ → Float
-float n = ofInt binary32 (pos n)
+use lib.Ieee.{Float, binary32, ofBits, toUnsigned, add, mul, div}
+use Rattle.laws.specs.Floats.{float}
 
 -- 100.0, an f32 of the source
 abbrev pub hundred : Float

@@ -6,7 +6,8 @@ use mathlib.Core.List.{List, [], _∷_}
 use Prim.Native.Nat.{ℕ, _≤_}
 use lib.Dec.{leb}
 use lib.IntN.{ℤ, pos, negsuc}
-use Rattle.refusal.specs.Judge.{Test}
+use Rattle.refusal.specs.Judge.{Test, Checks}
+use Rattle.refusal.specs.declared.Checked.{Checked}
 use Rattle.refusal.specs.declared.Refusal.the-variants.{OutsideLimits}
 use Rattle.action.specs.Limits.{factorMost, targetMost}
 use Rattle.action_set.specs.Sets.{SetIn, setTest}
@@ -62,6 +63,9 @@ contextTests c =
     limitTest (leb (c .«cp_max») targetMost) ∷
     setTest (c .«action_pool» .0) ∷
     []
+
+abbrev pub ChecksContext : CraftContext → Checked → Type 0
+ChecksContext c r = Checks (contextTests c) r
 
 -- what passed the tests of a context
 pub record ContextIn (c : CraftContext) : Type 0 where

@@ -1,7 +1,6 @@
 // The context, and the test of any context against its limits.
 ghost use mathlib.Core.Path.{_≡_};
-ghost use Rattle.refusal.specs.Judge.{checksOf};
-ghost use Rattle.craft_context.specs.Limits.{durable, contextTests};
+ghost use Rattle.craft_context.specs.Limits.{durable, ChecksContext};
 use action_set::ActionSet;
 use refusal::Checked;
 use refusal::Refusal;
@@ -55,7 +54,7 @@ impl CraftContext {
 
     // Refusal 1: a field is outside its limit. Levels, steps and flags have none.
     pub fn check(self) -> Checked
-        ensures { λ r. ⌜ r ≡ checksOf (contextTests self) ⌝ }
+        ensures { λ r. ⌜ ChecksContext self r ⌝ }
     {
         let refused = Checked::Refused(Refusal::OutsideLimits);
         if self.base_progress_factor > CraftContext::FACTOR_MOST {

@@ -6,7 +6,8 @@ use Prim.Native.Nat.{ℕ}
 use lib.Dec.{leb, ltb, eqb}
 use lib.IntN.{ℤ, negsuc}
 use lib.Signed.{leZ}
-use Rattle.refusal.specs.Judge.{Test}
+use Rattle.refusal.specs.Judge.{Test, Checks}
+use Rattle.refusal.specs.declared.Checked.{Checked}
 use Rattle.refusal.specs.declared.Refusal.the-variants.{StateOutOfRange}
 use Rattle.action.specs.Actions as A
 use Rattle.action.specs.Known.{actions}
@@ -102,3 +103,6 @@ stateTest context state = record { passed = stateInside context state; otherwise
 -- what every entry that is given a state tests first
 abbrev pub givenTests : CraftContext → CraftState → List Test
 givenTests context state = contextTests context ++ (stateTest context state ∷ [])
+
+abbrev pub ChecksState : CraftContext → CraftState → Checked → Type 0
+ChecksState context state r = Checks (givenTests context state) r

@@ -1,7 +1,6 @@
 // Refusal 2: a state field is outside its range.
 ghost use mathlib.Core.Path.{_≡_};
-ghost use Rattle.refusal.specs.Judge.{checksOf};
-ghost use Rattle.craft_state.specs.Limits.{wasOf, comboAgrees, lastKnown, stateInside, givenTests};
+ghost use Rattle.craft_state.specs.Limits.{wasOf, comboAgrees, lastKnown, stateInside, ChecksState};
 use super::state::CraftState;
 use super::state::Last;
 use action::Combo;
@@ -61,7 +60,7 @@ fn is_inside(context: CraftContext, state: CraftState) -> bool
 impl CraftState {
     // Refusal 1 of the context, then refusal 2.
     pub fn check(self, context: CraftContext) -> Checked
-        ensures { λ r. ⌜ r ≡ checksOf (givenTests context self) ⌝ }
+        ensures { λ r. ⌜ ChecksState context self r ⌝ }
     {
         let inside = context.check();
         if let Checked::Refused(x) = inside {

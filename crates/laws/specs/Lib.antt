@@ -1,2 +1,4 @@
 pub mod Bits
+pub mod Lists
+pub mod Floats
 pub mod laws

@@ -10,3 +10,4 @@ pub mod Raise
 pub mod Plus
 pub mod Small
 pub mod NoNan
+pub mod Floats

@@ -1,6 +1,6 @@
 -- An entry's answer, from its tests in the order in which document 01 has them: the first that fails refuses, and changes nothing that was lent.
 -- Assumes nothing.
-use mathlib.Core.Path.{_≡_}
+use mathlib.Core.Path.{_≡_, refl}
 use mathlib.Core.Bool.{Bool, cond}
 use mathlib.Core.List.{List, [], _∷_}
 use Prim.Native.Nat.{ℕ}
@@ -54,3 +54,14 @@ pub record Says {A : Type 0} (kind : Kind A) (tests : List Test) (answer r : A) 
 pub record Writes {A : Type 0} (kind : Kind A) (tests : List Test) (answer : A) (out written : List ℕ) (r : A) (after : List ℕ) : Type 0 where
   pub says : Says kind tests answer r
   pub room : after ≡ judged (λ x. out) written tests
+
+-- a function that only tests answers `Passed`, which is success, or the refusal
+abbrev checkedTold : Checked → Report
+checkedTold Passed = success
+checkedTold (Refused x) = reportOf x
+
+abbrev pub checking : Kind Checked
+checking = record { told = checkedTold; refused = Refused; refusing = λ x. refl }
+
+abbrev pub Checks : List Test → Checked → Type 0
+Checks tests r = Says checking tests Passed r

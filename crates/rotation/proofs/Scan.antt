@@ -6,7 +6,8 @@ use mathlib.Core.List.{List}
 use Prim.Native.Nat.{ℕ, _+_, _≤_, _<_}
 use native.Mathlib.Omega.{arith}
 use lib.ListN.{length, drop, getD}
-use Rattle.laws.specs.laws.Front.{front, front-on, front-stop, front-end}
+use Rattle.laws.specs.laws.Front.{front-on, front-stop, front-end}
+use Rattle.laws.specs.Lists.{front}
 
 abbrev pub Scanned : (ℕ → Bool) → List ℕ → ℕ → ℕ → Type 0
 Scanned f text at i = (i ≤ length text) × (i + front f (drop i text) ≡ at + front f (drop at text))

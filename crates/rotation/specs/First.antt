@@ -5,7 +5,7 @@ use mathlib.Core.Bool.{true}
 use mathlib.Core.List.{List}
 use Prim.Native.Nat.{ℕ, zero, suc, _<_}
 use lib.ListN.{length, take, drop, getD}
-use Rattle.laws.specs.laws.Front.{front}
+use Rattle.laws.specs.Lists.{front}
 use Rattle.action.specs.Names.{foundOf}
 use Rattle.action.specs.declared.names.Found.the-variants.{Nothing}
 use Rattle.rotation.specs.Gaps.{gap, letter}

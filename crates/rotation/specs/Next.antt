@@ -5,7 +5,7 @@ use mathlib.Core.List.{List}
 use Prim.Native.Nat.{ℕ, _+_, _-_}
 use lib.Dec.{leb}
 use lib.ListN.{length, take, drop}
-use Rattle.laws.specs.laws.Front.{front}
+use Rattle.laws.specs.Lists.{front}
 use Rattle.action.specs.Names.{foundOf}
 use Rattle.action.specs.declared.names.Found.{Found}
 use Rattle.action.specs.declared.names.Found.the-variants as F

@@ -2,7 +2,7 @@
 ghost use mathlib.Core.Path.{_≡_};
 ghost use Prim.Native.Nat.{_+_, _≤_};
 ghost use lib.ListN.{length, drop};
-ghost use Rattle.laws.specs.laws.Front.{front};
+ghost use Rattle.laws.specs.Lists.{front};
 ghost use Rattle.rotation.specs.Gaps.{gap, letter};
 
 const TAB: u8 = 9;

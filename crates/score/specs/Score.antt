@@ -5,7 +5,7 @@ use Prim.Native.Nat.{ℕ}
 use lib.Dec.{eqb}
 use lib.Ieee.{Float, binary32, ofBits, ofInt, add, sub, mul, div, lt}
 use Rattle.craft_context.specs.declared.context.CraftContext.{CraftContext}
-use Rattle.craft_context.specs.Factor.{float}
+use Rattle.laws.specs.Floats.{float}
 use Rattle.craft_state.specs.declared.state.CraftState.{CraftState}
 
 -- 1.0, an f32 of the source

@@ -3,7 +3,7 @@ ghost use mathlib.Core.Path.{_≡_};
 ghost use mathlib.Core.Bool.{not};
 ghost use lib.Dec.{T};
 ghost use lib.Ieee.{isNan};
-ghost use Rattle.craft_context.specs.Factor.{float};
+ghost use Rattle.laws.specs.Floats.{float};
 ghost use Rattle.craft_state.specs.Inside.{CraftIn};
 ghost use Rattle.score.specs.Score.{cappedOf, partOf, fewerOf, weighedOf, scoreOf};
 use craft_context::CraftContext;

@@ -2,14 +2,14 @@
 -- Assumes nothing.
 use mathlib.Core.Bool.{Bool, cond, _&&_}
 use Prim.Native.Nat.{ℕ}
-use lib.IntN.{pos}
-use lib.Ieee.{Float, binary32, ofBits, ofInt, add, lt, le}
+use lib.Ieee.{Float, binary32, ofBits, add, lt, le}
+use Rattle.laws.specs.Floats.{float}
 use Rattle.refusal.specs.Judge.{Test}
 use Rattle.refusal.specs.declared.Refusal.the-variants.{BadScore}
 use Rattle.action.specs.Known.{actions}
 use Rattle.tree.specs.declared.node.Node.{Node}
 
--- ---- the numbers: +0.0, 1.0, -1.0, and a whole number `as f32`
+-- ---- the numbers: +0.0, 1.0, -1.0
 
 abbrev pub plusZero : Float
 plusZero = ofBits binary32 0
@@ -19,9 +19,6 @@ one = ofBits binary32 0x3f80_0000
 
 abbrev pub minusOne : Float
 minusOne = ofBits binary32 0xbf80_0000
-
-abbrev pub float : ℕ → Float
-float n = ofInt binary32 (pos n)
 
 -- the most visits
 abbrev pub countMost : ℕ

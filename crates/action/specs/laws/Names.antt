@@ -9,8 +9,8 @@ use native.Mathlib.Omega.{arith}
 use lib.Dec.{T, leb, leb→le, eqb, eqb→eq}
 use lib.ListN.{length, getD, length-append}
 use Rattle.laws.specs.laws.Tests.{true-false}
-use Rattle.laws.specs.laws.Lists.{elem}
-use Rattle.laws.specs.laws.Same.{same, same→eq, same-refl, below-at}
+use Rattle.laws.specs.Lists.{elem, same}
+use Rattle.laws.specs.laws.Same.{same→eq, same-refl, below-at}
 use Rattle.action.specs.Table.{actionOf}
 use Rattle.action.specs.Known.{actions}
 use Rattle.action.specs.Names.{nameOf, labelOf, quotedOf, macroOf, textOf, foundFrom, foundOf, labelMost, textMost}

@@ -12,7 +12,7 @@ use lib.ListN.{length, drop, getD}
 use lib.Pow.{pow-pos}
 use Rattle.laws.specs.laws.Tests.{or-false, or-assoc}
 use Rattle.laws.specs.laws.Same.{sameBool, same-bool, below-at}
-use Rattle.laws.specs.laws.Lists.{elem, drop-at}
+use Rattle.laws.specs.laws.Lists.{drop-at}
 use Rattle.laws.specs.Bits.{has, count}
 use Rattle.laws.specs.laws.Bits.{has-high, has-with, collect-same, collect-lt, set-of-has}
 use Rattle.refusal.specs.declared.Checked.{Checked}
@@ -21,6 +21,7 @@ use Rattle.refusal.specs.Judge.{checkedOf, checksOf}
 use Rattle.refusal.specs.laws.Judge.{alone, shown}
 use Rattle.action.specs.Known.{actions, actionTest}
 use Rattle.action_set.specs.Sets.{SetIn, setTest, memberTests, setOf, withOf, keepOf, sizeOf, upward, membersOf}
+use Rattle.laws.specs.Lists.{elem}
 
 pub set-shown : {s : ℕ} {checked : Checked} → checked ≡ checkedOf (setTest s) → checked ≡ Passed → SetIn s
 set-shown {s} e p = ltb-true s (2 ^ actions) (shown (setTest s) [] (alone (setTest s) e) p .0)

@@ -11,11 +11,12 @@ use borrow.Author.Tests.{leb-true}
 use lib.Dec.{leb}
 use lib.ListN.{length, take, drop, getD, drop-of-length-le}
 use lib.Seq.{getD-take, length-take-le}
-use Rattle.laws.specs.laws.Front.{front, front-le}
+use Rattle.laws.specs.laws.Front.{front-le}
 use Rattle.laws.specs.laws.Lists.{drop-at}
 use Rattle.laws.specs.laws.Tests.{both}
 use Rattle.text.specs.Reading.{valueIn}
 use Rattle.context_line.specs.Shape.{digit, digits, digitsMost, Run}
+use Rattle.laws.specs.Lists.{front}
 
 module _ {b : ℕ} (d : digit b ≡ true) where
   pub digit-from : 48 ≤ b

@@ -11,7 +11,8 @@ use lib.Ieee.Exact.{HasValue}
 use Rattle.laws.specs.laws.Plus.{Plus, plus-of-nat, plus-add, plus-mul, plus-div}
 use Rattle.laws.specs.laws.Small.{Small, small-more, of-nat-small, of-nat-value, add-small, mul-small, div-small, truncated-small}
 use Rattle.action.specs.Limits.{factorMost}
-use Rattle.craft_context.specs.Factor.{float, hundred, baseOf, scaleOf, scaledOf, factorOf, Bounded}
+use Rattle.craft_context.specs.Factor.{hundred, baseOf, scaleOf, scaledOf, factorOf, Bounded}
+use Rattle.laws.specs.Floats.{float}
 
 hundred-value : HasValue hundred false 100 1
 unfolding ofBits

@@ -10,22 +10,21 @@ use Rattle.refusal.specs.declared.Checked.{Checked}
 use Rattle.refusal.specs.declared.Refusal.{Refusal}
 use Rattle.refusal.specs.declared.Report.{Report}
 use Rattle.refusal.specs.Report.{reportOf}
-use Rattle.refusal.specs.Judge.{Kind, Test, Says, Writes, checkedOf, checksOf}
+use Rattle.refusal.specs.Judge.{Kind, Test, Says, Writes}
 use Rattle.refusal.specs.laws.Judge.{one-answer, one-outcome}
 use Rattle.action.specs.declared.price.Combo.{Combo}
 use Rattle.action.specs.declared.texts.Text.the-variants as T
 use Rattle.action_set.specs.declared.ActionSet.{ActionSet}
-use Rattle.action_set.specs.Sets.{setTest}
-use Rattle.action_set.specs.Entries.{FromBits, FromList, Contains, Added, Removed, Len, IsEmpty, HighestIs, Members}
+use Rattle.action_set.specs.Entries.{ChecksSet, FromBits, FromList, Contains, Added, Removed, Len, IsEmpty, HighestIs, Members}
 use Rattle.craft_context.specs.declared.context.CraftContext.{CraftContext}
 use Rattle.craft_context.specs.declared.sheet.Player.{Player}
 use Rattle.craft_context.specs.declared.sheet.Recipe.{Recipe}
 use Rattle.craft_context.specs.declared.sheet.CraftOptions.{CraftOptions}
-use Rattle.craft_context.specs.Limits.{contextTests}
+use Rattle.craft_context.specs.Limits.{ChecksContext}
 use Rattle.craft_context.specs.Build.{New}
 use Rattle.craft_state.specs.declared.buffs.Buffs.{Buffs}
 use Rattle.craft_state.specs.declared.state.CraftState.{CraftState}
-use Rattle.craft_state.specs.Limits.{buffsInside, givenTests}
+use Rattle.craft_state.specs.Limits.{buffsInside, ChecksState}
 use Rattle.craft_state.specs.Start.{noBuffs, Start}
 use Rattle.moves.specs.declared.mode.Mode.{Mode}
 use Rattle.tree.specs.declared.node.Node.{Node}
@@ -91,8 +90,8 @@ one-from-name word = says
 pub one-ActionSet-new : OneAnswer (λ (r : ActionSet). r .0 ≡ 0)
 one-ActionSet-new r s a b = ap (λ (bits : ℕ). record { 0 = bits }) (a ∙ sym b)
 
-pub one-ActionSet-check : (bits : ℕ) → OneAnswer (λ (r : Checked). r ≡ checkedOf (setTest bits))
-one-ActionSet-check bits = equals
+pub one-ActionSet-check : (bits : ℕ) → OneAnswer (ChecksSet bits)
+one-ActionSet-check bits = says
 
 pub one-ActionSet-from-bits : (bits : ℕ) → OneAnswer (FromBits bits)
 one-ActionSet-from-bits bits = says
@@ -126,14 +125,14 @@ one-ActionSet-members bits out = writes
 pub one-CraftContext-new : (player : Player) (recipe : Recipe) (options : CraftOptions) → OneAnswer (New player recipe options)
 one-CraftContext-new player recipe options = says
 
-pub one-CraftContext-check : (context : CraftContext) → OneAnswer (λ (r : Checked). r ≡ checksOf (contextTests context))
-one-CraftContext-check context = equals
+pub one-CraftContext-check : (context : CraftContext) → OneAnswer (ChecksContext context)
+one-CraftContext-check context = says
 
 pub one-CraftState-new : (context : CraftContext) → OneAnswer (Start context)
 one-CraftState-new context = says
 
-pub one-CraftState-check : (context : CraftContext) (state : CraftState) → OneAnswer (λ (r : Checked). r ≡ checksOf (givenTests context state))
-one-CraftState-check context state = equals
+pub one-CraftState-check : (context : CraftContext) (state : CraftState) → OneAnswer (ChecksState context state)
+one-CraftState-check context state = says
 
 pub one-Buffs-new : OneAnswer (λ (r : Buffs). r ≡ noBuffs)
 one-Buffs-new = equals

@@ -9,10 +9,7 @@ use native.Mathlib.Numerals.{add-one}
 use native.Mathlib.Omega.{arith}
 use lib.ListN.{length, drop, getD, drop-of-length-le}
 use lib.Seq.{drop-cons}
-
-abbrev pub front : (ℕ → Bool) → List ℕ → ℕ
-front f [] = 0
-front f (b ∷ rest) = cond (f b) (suc (front f rest)) 0
+use Rattle.laws.specs.Lists.{front}
 
 -- a scan at place i: it goes on, it stops, nothing is left
 module _ (f : ℕ → Bool) (text : List ℕ) (i : ℕ) where

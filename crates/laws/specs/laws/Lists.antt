@@ -9,11 +9,7 @@ use lib.Dec.{eqb}
 use borrow.Author.Tests.{eq-eqb, ne-eqb}
 use lib.ListN.{length, drop, getD, drop-of-length-le}
 use lib.Seq.{drop-cons}
-
--- m stands in a list
-unfoldable pub elem : List ℕ → ℕ → Bool
-elem [] m = false
-elem (n ∷ rest) m = eqb m n || elem rest m
+use Rattle.laws.specs.Lists.{elem}
 
 -- what is left from place i on is the number there, and what is left after it
 pub drop-at : (list : List ℕ) (i : ℕ) → i < length list → drop i list ≡ getD list i 0 ∷ drop (i + 1) list

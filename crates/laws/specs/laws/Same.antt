@@ -9,6 +9,7 @@ use native.Mathlib.Nat.{eq-or-lt-of-le, le-of-suc-le-suc, not-suc-le-zero}
 use lib.Dec.{T, eqb, eqb→eq}
 use borrow.Author.Tests.{eq-eqb}
 use Rattle.laws.specs.laws.Tests.{and-left, and-right}
+use Rattle.laws.specs.Lists.{same}
 
 abbrev pub sameBool : Bool → Bool → Bool
 sameBool true b = b
@@ -19,13 +20,6 @@ same-bool true true t = refl
 same-bool true false t = absurd t
 same-bool false true t = absurd t
 same-bool false false t = refl
-
--- two lists are equal, by a test that computes
-abbrev pub same : List ℕ → List ℕ → Bool
-same [] [] = true
-same [] (y ∷ ys) = false
-same (x ∷ xs) [] = false
-same (x ∷ xs) (y ∷ ys) = eqb x y && same xs ys
 
 pub same→eq : (xs ys : List ℕ) → T (same xs ys) → xs ≡ ys
 same→eq [] [] t = refl

@@ -10,7 +10,7 @@ use Rattle.refusal.specs.declared.Refusal.{Refusal}
 use Rattle.refusal.specs.declared.Checked.{Checked}
 use Rattle.refusal.specs.declared.Checked.the-variants.{Passed, Refused}
 use Rattle.refusal.specs.Report.{reportOf, success}
-use Rattle.refusal.specs.Judge.{Test, judged, checkedOf, checksOf, roomTest, sizeMost, sizeTest, Kind, Says, Writes}
+use Rattle.refusal.specs.Judge.{Test, judged, checkedOf, checksOf, roomTest, sizeMost, sizeTest, Kind, Says, Writes, checking, Checks}
 
 refused-passed : {x : Refusal} → Refused x ≡ Passed → ⊥
 refused-passed e = let z : _≡_ {A = ℕ} 0 1 = cc in omega arith
@@ -94,6 +94,19 @@ room-shown {room} {needed} e p = leb-true needed room (shown (roomTest room need
 
 pub size-shown : {size : ℕ} {checked : Checked} → checked ≡ checkedOf (sizeTest size) → checked ≡ Passed → size ≤ sizeMost
 size-shown {size} e p = leb-true size sizeMost (shown (sizeTest size) [] (alone (sizeTest size) e) p .0)
+
+-- ---- a function that only tests
+
+pub checks : (tests : List Test) {r : Checked} → r ≡ checksOf tests → Checks tests r
+checks tests {r} e = record { number = by r e; same = e }
+  where
+    by : (r : Checked) → r ≡ checksOf tests → checking .told r ≡ judged reportOf success tests
+    by Passed e = judged-passed reportOf success tests e
+    by (Refused x) e = judged-refused reportOf success tests e
+
+pub checks-alone : {t : Test} {r : Checked} → Checks (t ∷ []) r → r ≡ checkedOf t
+unfolding judged
+checks-alone c = c .same
 
 -- ---- the ways through an entry, as its code takes them: tests stop it, tests let it on, no test is left
 

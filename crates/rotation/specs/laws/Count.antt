@@ -6,7 +6,7 @@ use mathlib.Core.List.{List}
 use Prim.Native.Nat.{ℕ, _+_, _<_}
 use native.Mathlib.Omega.{arith}
 use lib.ListN.{length, drop, length-take, length-drop}
-use Rattle.laws.specs.laws.Front.{front}
+use Rattle.laws.specs.Lists.{front}
 use Rattle.refusal.specs.Judge.{checkedOf}
 use Rattle.refusal.specs.declared.Checked.the-variants.{Passed, Refused}
 use Rattle.refusal.specs.declared.Refusal.the-variants.{UnknownWord}

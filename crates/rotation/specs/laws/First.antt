@@ -10,7 +10,7 @@ use native.Mathlib.Omega.{arith}
 use lib.ListN.{length, take, drop, getD, length-append, length-take, length-drop}
 use lib.Seq.{split-at, take-suc}
 use Rattle.laws.specs.laws.Tests.{true-false, either, both}
-use Rattle.laws.specs.laws.Front.{front}
+use Rattle.laws.specs.Lists.{front}
 use Rattle.action.specs.Names.{foundOf, isFound}
 use Rattle.action.specs.declared.names.Found.{Found}
 use Rattle.action.specs.declared.names.Found.the-variants.{Action, Nothing}

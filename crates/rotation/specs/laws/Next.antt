@@ -10,7 +10,7 @@ use borrow.Author.Tests.{leb-true, leb-false, le-leb, lt-leb}
 use lib.Dec.{leb}
 use lib.ListN.{length, drop, getD, drop-of-length-le, length-drop}
 use lib.Seq.{drop-drop, getD-drop}
-use Rattle.laws.specs.laws.Front.{front, front-le, front-after}
+use Rattle.laws.specs.laws.Front.{front-le, front-after}
 use Rattle.action.specs.Names.{foundOf}
 use Rattle.action.specs.declared.names.Found.{Found}
 use Rattle.action.specs.declared.names.Found.the-variants as F
@@ -20,6 +20,7 @@ use Rattle.rotation.specs.laws.Words.{gaps-passed, one-word, words-end}
 use Rattle.rotation.specs.Next.{startFrom, endFrom, between, wordIs, nextFrom, nextOf}
 use Rattle.rotation.specs.declared.words.Next.{Next}
 use Rattle.rotation.specs.declared.words.Next.the-variants.{End, Unknown, Action}
+use Rattle.laws.specs.Lists.{front}
 
 -- the words from a place on
 abbrev pub wordsAt : List ℕ → ℕ → List Word

@@ -11,7 +11,7 @@ use borrow.Author.Tests.{lt-ltb}
 use lib.ListN.{length, take, drop, getD, length-append}
 use lib.Seq.{length-take-le}
 use Rattle.laws.specs.laws.Tests.{either}
-use Rattle.laws.specs.laws.Front.{front, front-le}
+use Rattle.laws.specs.laws.Front.{front-le}
 use Rattle.action.specs.Known.{actions, knownFront}
 use Rattle.action.specs.Names.{foundOf}
 use Rattle.action.specs.laws.Names.{found-known}
@@ -19,6 +19,7 @@ use Rattle.action.specs.declared.names.Found.{Found}
 use Rattle.action.specs.declared.names.Found.the-variants.{Action, Nothing}
 use Rattle.rotation.specs.Gaps.{gap, letter}
 use Rattle.rotation.specs.Words.{Word, ended, wordsFrom, wordsOf, listed, numbers, actionsIn}
+use Rattle.laws.specs.Lists.{front}
 
 -- ---- one byte more: a gap ends the word, a letter goes on with it
 

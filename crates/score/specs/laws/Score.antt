@@ -13,7 +13,7 @@ use Rattle.laws.specs.laws.Plus.{Plus, plus-of-nat, plus-div}
 use Rattle.laws.specs.laws.Small.{Small, small-more, below-whole, of-nat-small, of-neg-small, of-nat-value, add-small, sub-small, mul-small, div-small}
 use Rattle.laws.specs.laws.NoNan.{small-no-nan, add-minus-inf, over-zero}
 use Rattle.craft_context.specs.declared.context.CraftContext.{CraftContext}
-use Rattle.craft_context.specs.Factor.{float}
+use Rattle.laws.specs.Floats.{float}
 use Rattle.craft_state.specs.declared.state.CraftState.{CraftState}
 use Rattle.craft_state.specs.Limits.{stepMost}
 use Rattle.craft_state.specs.Inside.{DurabilityIn, CraftIn}

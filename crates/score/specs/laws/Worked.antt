@@ -7,7 +7,7 @@ use lib.IntN.{ℤ, pos, negsuc}
 use lib.Ieee.{binary32, ofBits, toBits, ofInt, add, sub, mul, div, lt}
 use Rattle.action.specs.declared.price.Combo.the-variants as C
 use Rattle.craft_context.specs.declared.context.CraftContext.{CraftContext}
-use Rattle.craft_context.specs.Factor.{float}
+use Rattle.laws.specs.Floats.{float}
 use Rattle.craft_state.specs.declared.state.CraftState.{CraftState}
 use Rattle.craft_state.specs.declared.state.Last.the-variants as L
 use Rattle.craft_state.specs.declared.state.Perfection.the-variants as P

@@ -8,7 +8,7 @@ use Prim.Native.String.{String}
 use lib.Ieee.{toBits, ofBits, ofInt, sub, div}
 use lib.IntN.{pos}
 use Rattle.laws.specs.Bits.{has, collect}
-use Rattle.laws.specs.laws.Lists.{elem}
+use Rattle.laws.specs.Lists.{elem}
 use Rattle.text.specs.Bytes.{bytes}
 use Rattle.text.specs.Decimal.{decimalOf, signedOf, rightOf}
 use Rattle.text.specs.Hex.{hexOf}

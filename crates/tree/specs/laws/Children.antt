@@ -11,7 +11,7 @@ use native.Mathlib.Omega.{arith}
 use lib.Dec.{eqb, ltb}
 use lib.ListN.{length, length-append}
 use borrow.Author.Tests.{ltb-true, ltb-false, eqb-true, eqb-false, lt-ltb, le-ltb}
-use Rattle.laws.specs.laws.Lists.{elem}
+use Rattle.laws.specs.Lists.{elem}
 use Rattle.laws.specs.laws.Tests.{or-assoc, or-false}
 use Rattle.tree.specs.declared.node.Node.{Node}
 use Rattle.tree.specs.Best.{isChild}

@@ -9,7 +9,7 @@ use native.Mathlib.Omega.{arith}
 use lib.Dec.{eqb, eqb·suc-zero}
 use lib.Ieee.{Float}
 use borrow.Author.Tests.{eq-eqb, ne-eqb, eqb-true, eqb-false}
-use Rattle.laws.specs.laws.Lists.{elem}
+use Rattle.laws.specs.Lists.{elem}
 use Rattle.laws.specs.laws.Tests.{true-false, neither, or-true, or-false}
 use Rattle.tree.specs.declared.node.Node.{Node}
 use Rattle.tree.specs.Node.{touchedOf}

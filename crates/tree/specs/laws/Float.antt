@@ -16,8 +16,9 @@ use lib.Ieee.Scale.{round-same}
 use borrow.Author.Tests.{ltb-false, eqb-true, eqb-false, lt-ltb, le-ltb, eq-eqb, ne-eqb}
 use Rattle.laws.specs.laws.Tests.{and-left, and-right}
 use Rattle.laws.specs.laws.Small.{Small, or-le}
-use Rattle.tree.specs.Node.{plusZero, one, visitsMost, countMost, float}
+use Rattle.tree.specs.Node.{plusZero, one, visitsMost, countMost}
 use Rattle.tree.specs.Sound.{within, minus}
+use Rattle.laws.specs.Floats.{float}
 
 -- ---- comparisons of magnitudes, as `le` computes them
 

@@ -11,7 +11,7 @@ use borrow.Author.Tests.{leb-true, ltb-true, not-true}
 use Rattle.refusal.specs.Judge.{checksOf, roomTest}
 use Rattle.refusal.specs.laws.Judge.{shown}
 use Rattle.refusal.specs.declared.Checked.the-variants.{Passed}
-use Rattle.laws.specs.laws.Lists.{elem}
+use Rattle.laws.specs.Lists.{elem}
 use Rattle.action.specs.Known.{actionTest}
 use Rattle.tree.specs.declared.node.Node.{Node}
 use Rattle.tree.specs.Node.{isScore, scoreTest, touchedOf}

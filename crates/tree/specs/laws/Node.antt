@@ -17,9 +17,10 @@ use Rattle.laws.specs.laws.Tests.{true-false, both, and-both}
 use Rattle.laws.specs.laws.Small.{Small, of-nat-value, truncated-small, add-small}
 use Rattle.action.specs.Known.{known}
 use Rattle.tree.specs.declared.node.Node.{Node}
-use Rattle.tree.specs.Node.{plusZero, one, minusOne, visitsMost, countMost, float, nodeOf, rootNode, isScore, isFull, greaterOf, touchedOf}
+use Rattle.tree.specs.Node.{plusZero, one, minusOne, visitsMost, countMost, nodeOf, rootNode, isScore, isFull, greaterOf, touchedOf}
 use Rattle.tree.specs.Sound.{placed, isCount, within, minus, isMaximum, soundAt}
 use Rattle.tree.specs.laws.Float.{within-small, small-within, count-small, eq-self, eq-equals, same-value, count-more, plus-above, zero-value, one-value, most-value}
+use Rattle.laws.specs.Floats.{float}
 
 pub holds : {b : Bool} → b ≡ true → T b
 holds e = subst T (sym e) tt

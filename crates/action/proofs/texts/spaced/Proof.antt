@@ -4,9 +4,10 @@ use mathlib.Core.Path.{_≡_, refl, sym, _∙_}
 use Prim.Native.Nat.{_-_}
 use native.Mathlib.Omega.{arith}
 use lib.ListN.{length, drop}
-use Rattle.laws.specs.laws.Lists.{elem, elem-here, elem-later, elem-end}
+use Rattle.laws.specs.laws.Lists.{elem-here, elem-later, elem-end}
 use Rattle.action.proofs.texts.spaced.Statement.{statement}
 use Rattle.action.proofs.texts.spaced.Tie as tie
+use Rattle.laws.specs.Lists.{elem}
 
 abbrev Inv-loop : tie.InvT-loop
 Inv-loop text i₀ i = elem (drop i text) 32 ≡ elem text 32

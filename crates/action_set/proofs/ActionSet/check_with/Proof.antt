@@ -2,7 +2,7 @@
 -- Assumes nothing.
 use mathlib.Core.List.{[], _∷_}
 use borrow.Author.Needs.{needs}
-use Rattle.refusal.specs.laws.Judge.{alone, checks-stop, checks-on}
+use Rattle.refusal.specs.laws.Judge.{alone, checks-stop, checks-on, checks-alone}
 use Rattle.action.specs.Known.{actionTest}
 use Rattle.action_set.specs.Sets.{setTest}
 use Rattle.action_set.proofs.ActionSet.check_with.Statement.{statement}
@@ -16,9 +16,9 @@ check-with-spec =
     (λ c. search needs)
     (λ c.
     let a = c .before .before .before .before .args in
-    checks-stop (setTest (a .self .0)) (actionTest (a .n) ∷ []) (c .before .before .before .check .ensures) (c .before .inside .given .1))
+    checks-stop (setTest (a .self .0)) (actionTest (a .n) ∷ []) (checks-alone (c .before .before .before .check .ensures)) (c .before .inside .given .1))
     (λ c. search needs)
     (λ c κs. tt)
     (λ c.
     let a = c .before .before .before .before .args in
-    checks-on (setTest (a .self .0)) (actionTest (a .n) ∷ []) (c .before .before .before .check .ensures) (c .before .enum-told .given .1) (alone (actionTest (a .n)) (c .check-action .ensures))))
+    checks-on (setTest (a .self .0)) (actionTest (a .n) ∷ []) (checks-alone (c .before .before .before .check .ensures)) (c .before .enum-told .given .1) (alone (actionTest (a .n)) (c .check-action .ensures))))

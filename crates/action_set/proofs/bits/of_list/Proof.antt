@@ -5,7 +5,7 @@ use Prim.Native.Nat.{_-_}
 use native.Mathlib.Omega.{arith}
 use lib.Pow.{pow-pos}
 use lib.ListN.{length, drop, drop-of-length-le}
-use Rattle.laws.specs.laws.Lists.{elem}
+use Rattle.laws.specs.Lists.{elem}
 use Rattle.action.specs.Known.{actions}
 use Rattle.action.specs.laws.Known.{known-each}
 use Rattle.action_set.specs.Sets.{SetIn, setOf}

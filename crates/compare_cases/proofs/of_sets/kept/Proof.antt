@@ -2,6 +2,7 @@
 -- Assumes nothing.
 use borrow.Author.Needs.{needs}
 use Rattle.action_set.specs.laws.Sets.{set-shown}
+use Rattle.refusal.specs.laws.Judge.{checks-alone}
 use Rattle.compare_cases.proofs.of_sets.kept.Statement.{statement}
 use Rattle.compare_cases.proofs.of_sets.kept.Tie as tie
 
@@ -19,7 +20,7 @@ kept-spec =
     (λ c κs. tt)
     (λ c. tt)
     (λ c. search needs)
-    (λ c κs. set-shown (c .before .before .before .before .before .check .ensures) (c .before .before .before .enum-told .given .1))
+    (λ c κs. set-shown (checks-alone (c .before .before .before .before .before .check .ensures)) (c .before .before .before .enum-told .given .1))
     (λ c. search needs)
     (λ c κs. tt)
     (λ c. tt))

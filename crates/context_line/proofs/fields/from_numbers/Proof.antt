@@ -18,7 +18,7 @@ abbrev later : tie.After-check → List Test
 later c = contextTests (contextOf (c .before .before .before .before .before .before .args .values .now))
 
 tested : (c : tie.After-check) → c .check .result ≡ checksOf (later c)
-tested c = c .check .ensures ∙ ap (λ (x : CraftContext). checksOf (contextTests x)) (c .before .context-of .ensures)
+tested c = c .check .ensures .same ∙ ap (λ (x : CraftContext). checksOf (contextTests x)) (c .before .context-of .ensures)
 
 check-fits-requires : tie.Need-check-fits-requires
 check-fits-requires c κs = search needs

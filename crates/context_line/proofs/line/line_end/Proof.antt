@@ -6,10 +6,11 @@ use Prim.Native.Nat.{_+_, _-_, _≤_}
 use native.Mathlib.Omega.{arith}
 use borrow.Author.Tests.{eq-eqb, ne-eqb}
 use lib.ListN.{length, drop}
-use Rattle.laws.specs.laws.Front.{front, front-on, front-stop, front-end}
+use Rattle.laws.specs.laws.Front.{front-on, front-stop, front-end}
 use Rattle.context_line.specs.Shape.{inLine, lineEnd}
 use Rattle.context_line.proofs.line.line_end.Statement.{statement}
 use Rattle.context_line.proofs.line.line_end.Tie as tie
+use Rattle.laws.specs.Lists.{front}
 
 abbrev Inv-loop : tie.InvT-loop
 Inv-loop input i₀ i = (i ≤ length input) × (i + front inLine (drop i input) ≡ lineEnd input)

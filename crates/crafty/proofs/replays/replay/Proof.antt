@@ -18,7 +18,7 @@ use Rattle.crafty.proofs.replays.replay.Statement.{statement}
 use Rattle.crafty.proofs.replays.replay.Tie as tie
 
 inside : (c : tie.After-enum-told) → ContextIn (c .before .before .before .before .args .context)
-inside c = context-in _ (c .before .before .check .ensures) (c .enum-told .given .1)
+inside c = context-in _ (c .before .before .check .ensures .same) (c .enum-told .given .1)
 
 -- step_max is a byte
 byte : (c : tie.Start) → Fits w8 (c .args .context .«step_max»)
@@ -39,7 +39,7 @@ replay-spec =
     (λ c. search needs)
     (λ c.
     let k = c .before .before .before in
-    record { says = stopped-by (contextTests (k .before .before .args .context)) (listTest (k .before .before .args .list .now) ∷ []) (k .check .ensures) (c .before .inside .given .1); promise = tt; score = tt })
+    record { says = stopped-by (contextTests (k .before .before .args .context)) (listTest (k .before .before .args .list .now) ∷ []) (k .check .ensures .same) (c .before .inside .given .1); promise = tt; score = tt })
     (λ c. search needs)
     (λ c κs. tt)
     (λ c. search needs)
@@ -48,7 +48,7 @@ replay-spec =
     let k = l .before .before .before in
     record {
       says =
-          onward-by (contextTests (k .before .before .args .context)) (listTest (k .before .before .args .list .now) ∷ []) (k .check .ensures) (l .before .enum-told .given .1) (stopped (l .check-list .ensures) (c .before .known .given .1));
+          onward-by (contextTests (k .before .before .args .context)) (listTest (k .before .before .args .list .now) ∷ []) (k .check .ensures .same) (l .before .enum-told .given .1) (stopped (l .check-list .ensures) (c .before .known .given .1));
       promise = tt;
       score = tt;
     })
@@ -59,7 +59,7 @@ replay-spec =
     let k = l .before .before .before in
     record {
       says =
-          onward-by (contextTests (k .before .before .args .context)) (listTest (k .before .before .args .list .now) ∷ []) (k .check .ensures) (l .before .enum-told .given .1) (onward (l .check-list .ensures) (c .before .enum-told2 .given .1) (answered refl (ap Report (c .execute-actions .ensures .0))));
+          onward-by (contextTests (k .before .before .args .context)) (listTest (k .before .before .args .list .now) ∷ []) (k .check .ensures .same) (l .before .enum-told .given .1) (onward (l .check-list .ensures) (c .before .enum-told2 .given .1) (answered refl (ap Report (c .execute-actions .ensures .0))));
       promise = kept c;
       score = c .execute-actions .ensures .1;
     }))

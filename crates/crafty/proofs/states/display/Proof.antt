@@ -25,7 +25,7 @@ display-spec =
     (λ c. search needs)
     (λ c.
     let k = c .before .before .before in
-    stopped-room-by (givenTests (k .before .before .args .context) (k .before .before .args .state)) (roomTest (length (k .before .before .args .out .now)) (length (displayOf (k .before .before .args .context) (k .before .before .args .state))) ∷ []) (k .check .ensures) (c .before .given .given .1) refl)
+    stopped-room-by (givenTests (k .before .before .args .context) (k .before .before .args .state)) (roomTest (length (k .before .before .args .out .now)) (length (displayOf (k .before .before .args .context) (k .before .before .args .state))) ∷ []) (k .check .ensures .same) (c .before .given .given .1) refl)
     (λ c. search needs)
     (λ c. search needs)
     (λ c κs. search needs)
@@ -36,4 +36,4 @@ display-spec =
     (λ c.
     let r = c .before .before .before .before .before .before in
     let k = r .before .before .before .before in
-    onward-room-by (givenTests (k .before .before .args .context) (k .before .before .args .state)) _ (k .check .ensures) (r .before .before .enum-told .given .1) (fits-as (lent r .same) (c .before .before .write .ensures))))
+    onward-room-by (givenTests (k .before .before .args .context) (k .before .before .args .state)) _ (k .check .ensures .same) (r .before .before .enum-told .given .1) (fits-as (lent r .same) (c .before .before .write .ensures))))

@@ -17,9 +17,9 @@ moves-spec =
     (tie.spec
     (λ c κs. tt)
     (λ c. search needs)
-    (λ c. let k = c .before .before .before in stopped-by (givenTests (k .before .args .context) (k .before .args .state)) [] (k .check .ensures) (c .before .given .given .1))
+    (λ c. let k = c .before .before .before in stopped-by (givenTests (k .before .args .context) (k .before .args .state)) [] (k .check .ensures .same) (c .before .given .given .1))
     (λ c. search needs)
-    (λ c κs. craft-in _ _ (c .before .before .check .ensures) (c .enum-told .given .1))
+    (λ c κs. craft-in _ _ (c .before .before .check .ensures .same) (c .enum-told .given .1))
     (λ c.
     let k = c .before .before .before in
-    onward-by (givenTests (k .before .args .context) (k .before .args .state)) [] (k .check .ensures) (c .before .enum-told .given .1) (answered refl (ap (λ (set : ℕ). Moves (record { 0 = set })) (c .legal-moves .ensures .0)))))
+    onward-by (givenTests (k .before .args .context) (k .before .args .state)) [] (k .check .ensures .same) (c .before .enum-told .given .1) (answered refl (ap (λ (set : ℕ). Moves (record { 0 = set })) (c .legal-moves .ensures .0)))))

@@ -30,12 +30,12 @@ answer s = To (executeOf (s .args .context) (s .args .state) (s .args .n))
 
 -- context and state are inside the limits, so the later tests decide
 inside : (c : tie.After-enum-told) → CraftIn (c .before .before .before .args .context) (c .before .before .before .args .state)
-inside c = craft-in _ _ (c .before .before .check .ensures) (c .enum-told .given .1)
+inside c = craft-in _ _ (c .before .before .check .ensures .same) (c .enum-told .given .1)
 
 began : (c : tie.After-enum-told) {r : Stepped}
     → Says stepped (later (c .before .before .before)) (answer (c .before .before .before)) r
     → Says stepped (givenTests (c .before .before .before .args .context) (c .before .before .before .args .state) ++ later (c .before .before .before)) (answer (c .before .before .before)) r
-began c h = onward-by (givenTests (c .before .before .before .args .context) (c .before .before .before .args .state)) (later (c .before .before .before)) (c .before .before .check .ensures) (c .enum-told .given .1) h
+began c h = onward-by (givenTests (c .before .before .before .args .context) (c .before .before .before .args .state)) (later (c .before .before .before)) (c .before .before .check .ensures .same) (c .enum-told .given .1) h
 
 -- the test of the candidate is its place among the moves
 tested : (c : tie.After-is-legal) {b : Bool} → let s = c .before .before .before .before .before .before .before in c .is-legal .result ≡ b → has (movesOf (s .args .context) (s .args .state) (s .args .mode)) (s .args .n) ≡ b
@@ -50,7 +50,7 @@ step-spec =
     (λ c. search needs)
     (λ c.
     let k = c .before .before .before in
-    stopped-by (givenTests (k .before .args .context) (k .before .args .state)) (later (k .before)) (k .check .ensures) (c .before .given .given .1))
+    stopped-by (givenTests (k .before .args .context) (k .before .args .state)) (later (k .before)) (k .check .ensures .same) (c .before .given .given .1))
     (λ c. search needs)
     (λ c κs. tt)
     (λ c. search needs)

@@ -7,6 +7,7 @@ use mir.ValLaws.{toZ-ofZ}
 use borrow.Author.Tests.{le-leb, lt-leb, not-true, not-false}
 use Rattle.refusal.specs.Judge.{judged}
 use Rattle.craft_context.specs.Limits.{durable}
+use Rattle.refusal.specs.laws.Judge.{checks}
 use Rattle.craft_context.proofs.context.CraftContext.check.Statement.{statement}
 use Rattle.craft_context.proofs.context.CraftContext.check.Tie as tie
 
@@ -22,13 +23,13 @@ unfolding judged
 check-spec =
     tie.close
     (tie.spec
-    (λ c. simp (lt-leb _ _ (c .if1 .taken)))
-    (λ c. simp (le-leb _ _ (c .before .before .if1 .left), lt-leb _ _ (c .if2 .taken)))
-    (λ c. simp (le-leb _ _ (c .before .before .before .before .if1 .left), le-leb _ _ (c .before .before .if2 .left), lt-leb _ _ (c .if3 .taken)))
-    (λ c. simp (le-leb _ _ (c .before .before .before .before .before .before .if1 .left), le-leb _ _ (c .before .before .before .before .if2 .left), le-leb _ _ (c .before .before .if3 .left), lt-leb _ _ (c .if4 .taken)))
-    (λ c. simp (le-leb _ _ (c .before .before .before .before .before .before .before .before .if1 .left), le-leb _ _ (c .before .before .before .before .before .before .if2 .left), le-leb _ _ (c .before .before .before .before .if3 .left), le-leb _ _ (c .before .before .if4 .left), lt-leb _ _ (c .if5 .taken)))
+    (λ c. checks _ (simp (lt-leb _ _ (c .if1 .taken))))
+    (λ c. checks _ (simp (le-leb _ _ (c .before .before .if1 .left), lt-leb _ _ (c .if2 .taken))))
+    (λ c. checks _ (simp (le-leb _ _ (c .before .before .before .before .if1 .left), le-leb _ _ (c .before .before .if2 .left), lt-leb _ _ (c .if3 .taken))))
+    (λ c. checks _ (simp (le-leb _ _ (c .before .before .before .before .before .before .if1 .left), le-leb _ _ (c .before .before .before .before .if2 .left), le-leb _ _ (c .before .before .if3 .left), lt-leb _ _ (c .if4 .taken))))
+    (λ c. checks _ (simp (le-leb _ _ (c .before .before .before .before .before .before .before .before .if1 .left), le-leb _ _ (c .before .before .before .before .before .before .if2 .left), le-leb _ _ (c .before .before .before .before .if3 .left), le-leb _ _ (c .before .before .if4 .left), lt-leb _ _ (c .if5 .taken))))
     (λ c κs. tt)
-    (λ c. simp (le-leb _ _ (c .before .before .before .before .before .before .before .before .before .before .before .if1 .left), le-leb _ _ (c .before .before .before .before .before .before .before .before .before .if2 .left), le-leb _ _ (c .before .before .before .before .before .before .before .if3 .left), le-leb _ _ (c .before .before .before .before .before .if4 .left), le-leb _ _ (c .before .before .before .if5 .left), sturdy (c .before) ∙ not-true _ (c .if6 .taken)))
-    (λ c. simp (le-leb _ _ (c .before .before .before .before .before .before .before .before .before .before .before .before .before .if1 .left), le-leb _ _ (c .before .before .before .before .before .before .before .before .before .before .before .if2 .left), le-leb _ _ (c .before .before .before .before .before .before .before .before .before .if3 .left), le-leb _ _ (c .before .before .before .before .before .before .before .if4 .left), le-leb _ _ (c .before .before .before .before .before .if5 .left), sturdy (c .before .before .before) ∙ not-false _ (c .before .before .if6 .left), lt-leb _ _ (c .if7 .taken)))
+    (λ c. checks _ (simp (le-leb _ _ (c .before .before .before .before .before .before .before .before .before .before .before .if1 .left), le-leb _ _ (c .before .before .before .before .before .before .before .before .before .if2 .left), le-leb _ _ (c .before .before .before .before .before .before .before .if3 .left), le-leb _ _ (c .before .before .before .before .before .if4 .left), le-leb _ _ (c .before .before .before .if5 .left), sturdy (c .before) ∙ not-true _ (c .if6 .taken))))
+    (λ c. checks _ (simp (le-leb _ _ (c .before .before .before .before .before .before .before .before .before .before .before .before .before .if1 .left), le-leb _ _ (c .before .before .before .before .before .before .before .before .before .before .before .if2 .left), le-leb _ _ (c .before .before .before .before .before .before .before .before .before .if3 .left), le-leb _ _ (c .before .before .before .before .before .before .before .if4 .left), le-leb _ _ (c .before .before .before .before .before .if5 .left), sturdy (c .before .before .before) ∙ not-false _ (c .before .before .if6 .left), lt-leb _ _ (c .if7 .taken))))
     (λ c κs. tt)
-    (λ c. simp (le-leb _ _ (c .before .before .before .before .before .before .before .before .before .before .before .before .before .before .before .if1 .left), le-leb _ _ (c .before .before .before .before .before .before .before .before .before .before .before .before .before .if2 .left), le-leb _ _ (c .before .before .before .before .before .before .before .before .before .before .before .if3 .left), le-leb _ _ (c .before .before .before .before .before .before .before .before .before .if4 .left), le-leb _ _ (c .before .before .before .before .before .before .before .if5 .left), sturdy (c .before .before .before .before .before) ∙ not-false _ (c .before .before .before .before .if6 .left), le-leb _ _ (c .before .before .if7 .left), c .check .ensures)))
+    (λ c. checks _ (simp (le-leb _ _ (c .before .before .before .before .before .before .before .before .before .before .before .before .before .before .before .if1 .left), le-leb _ _ (c .before .before .before .before .before .before .before .before .before .before .before .before .before .if2 .left), le-leb _ _ (c .before .before .before .before .before .before .before .before .before .before .before .if3 .left), le-leb _ _ (c .before .before .before .before .before .before .before .before .before .if4 .left), le-leb _ _ (c .before .before .before .before .before .before .before .if5 .left), sturdy (c .before .before .before .before .before) ∙ not-false _ (c .before .before .before .before .if6 .left), le-leb _ _ (c .before .before .if7 .left), c .check .ensures))))

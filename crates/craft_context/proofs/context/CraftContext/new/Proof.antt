@@ -22,7 +22,7 @@ later c = contextTests (builtOf (c .args .player) (c .args .recipe) (c .args .op
 -- the context that is tested is the one that the definition builds
 tested : (c : tie.After-check) → c .check .result ≡ checksOf (later (c .before .before .before .before .before))
 unfolding later
-tested c = c .check .ensures ∙ ap (λ (x : CraftContext). checksOf (contextTests x)) (c .before .build .ensures)
+tested c = c .check .ensures .same ∙ ap (λ (x : CraftContext). checksOf (contextTests x)) (c .before .build .ensures)
 
 pub new-spec : {M : Type 1} → statement M
 unfolding first later

@@ -15,7 +15,7 @@ new-spec =
     (tie.spec
     (λ c κs. tt)
     (λ c. search needs)
-    (λ c. stopped-by (contextTests (c .before .before .before .before .args .context)) [] (c .before .before .before .check .ensures) (c .before .inside .given .1))
+    (λ c. stopped-by (contextTests (c .before .before .before .before .args .context)) [] (c .before .before .before .check .ensures .same) (c .before .inside .given .1))
     (λ c. search needs)
     (λ c κs. tt)
-    (λ c. onward-by (contextTests (c .before .before .before .before .args .context)) [] (c .before .before .before .check .ensures) (c .before .enum-told .given .1) (answered refl (ap At (c .fresh .ensures)))))
+    (λ c. onward-by (contextTests (c .before .before .before .before .args .context)) [] (c .before .before .before .check .ensures .same) (c .before .enum-told .given .1) (answered refl (ap At (c .fresh .ensures)))))

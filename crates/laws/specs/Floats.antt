@@ -1,0 +1,13 @@
+-- Whole numbers and hundredths in binary32, by the logic's account of IEEE 754.
+-- Assumes nothing.
+use Prim.Native.Nat.{ℕ}
+use lib.IntN.{pos}
+use lib.Ieee.{Float, binary32, ofInt, div}
+
+-- a whole number `as f32`
+abbrev pub float : ℕ → Float
+float n = ofInt binary32 (pos n)
+
+-- so many hundredths, rounded
+abbrev pub hundredths : ℕ → Float
+hundredths n = div binary32 (float n) (float 100)
