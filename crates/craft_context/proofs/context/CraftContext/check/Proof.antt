@@ -7,7 +7,7 @@ use mir.ValLaws.{toZ-ofZ}
 use borrow.Author.Tests.{le-leb, lt-leb, not-true, not-false}
 use Rattle.refusal.specs.Judge.{judged}
 use Rattle.craft_context.specs.Limits.{durable}
-use Rattle.refusal.specs.laws.Judge.{checks}
+use Rattle.refusal.specs.laws.Judge.{checks, checks-alone}
 use Rattle.craft_context.proofs.context.CraftContext.check.Statement.{statement}
 use Rattle.craft_context.proofs.context.CraftContext.check.Tie as tie
 
@@ -32,4 +32,4 @@ check-spec =
     (λ c. checks _ (simp (le-leb _ _ (c .before .before .before .before .before .before .before .before .before .before .before .if1 .left), le-leb _ _ (c .before .before .before .before .before .before .before .before .before .if2 .left), le-leb _ _ (c .before .before .before .before .before .before .before .if3 .left), le-leb _ _ (c .before .before .before .before .before .if4 .left), le-leb _ _ (c .before .before .before .if5 .left), sturdy (c .before) ∙ not-true _ (c .if6 .taken))))
     (λ c. checks _ (simp (le-leb _ _ (c .before .before .before .before .before .before .before .before .before .before .before .before .before .if1 .left), le-leb _ _ (c .before .before .before .before .before .before .before .before .before .before .before .if2 .left), le-leb _ _ (c .before .before .before .before .before .before .before .before .before .if3 .left), le-leb _ _ (c .before .before .before .before .before .before .before .if4 .left), le-leb _ _ (c .before .before .before .before .before .if5 .left), sturdy (c .before .before .before) ∙ not-false _ (c .before .before .if6 .left), lt-leb _ _ (c .if7 .taken))))
     (λ c κs. tt)
-    (λ c. checks _ (simp (le-leb _ _ (c .before .before .before .before .before .before .before .before .before .before .before .before .before .before .before .if1 .left), le-leb _ _ (c .before .before .before .before .before .before .before .before .before .before .before .before .before .if2 .left), le-leb _ _ (c .before .before .before .before .before .before .before .before .before .before .before .if3 .left), le-leb _ _ (c .before .before .before .before .before .before .before .before .before .if4 .left), le-leb _ _ (c .before .before .before .before .before .before .before .if5 .left), sturdy (c .before .before .before .before .before) ∙ not-false _ (c .before .before .before .before .if6 .left), le-leb _ _ (c .before .before .if7 .left), c .check .ensures))))
+    (λ c. checks _ (simp (le-leb _ _ (c .before .before .before .before .before .before .before .before .before .before .before .before .before .before .before .if1 .left), le-leb _ _ (c .before .before .before .before .before .before .before .before .before .before .before .before .before .if2 .left), le-leb _ _ (c .before .before .before .before .before .before .before .before .before .before .before .if3 .left), le-leb _ _ (c .before .before .before .before .before .before .before .before .before .if4 .left), le-leb _ _ (c .before .before .before .before .before .before .before .if5 .left), sturdy (c .before .before .before .before .before) ∙ not-false _ (c .before .before .before .before .if6 .left), le-leb _ _ (c .before .before .if7 .left), checks-alone (c .check .ensures)))))
