@@ -3,7 +3,7 @@ ghost use mathlib.Core.Path.{_≡_};
 ghost use Prim.Native.Nat.{_<_};
 ghost use Rattle.laws.specs.Bits.{has};
 ghost use Rattle.action.specs.Known.{actions};
-ghost use Rattle.action_set.specs.Sets.{Inside, keepOf};
+ghost use Rattle.action_set.specs.Sets.{SetIn, keepOf};
 ghost use Rattle.craft_state.specs.Inside.{CraftIn};
 ghost use Rattle.moves.specs.Moves.{ended, allowsOf, passesOf, movesOf};
 use super::candidate::allows;
@@ -23,8 +23,8 @@ pub fn has_ended(context: CraftContext, state: CraftState) -> bool
 
 // The walk over a set: each member is tested, and dropped if it fails.
 fn keep_allowed(context: CraftContext, state: CraftState, mode: Mode, set: u32) -> u32
-    requires { ⌜ CraftIn context state × Inside set ⌝ }
-    ensures { λ r. ⌜ (r ≡ keepOf (allowsOf context state mode) set) × Inside r ⌝ }
+    requires { ⌜ CraftIn context state × SetIn set ⌝ }
+    ensures { λ r. ⌜ (r ≡ keepOf (allowsOf context state mode) set) × SetIn r ⌝ }
 {
     let mut kept = set;
     let mut remaining = set;
@@ -67,7 +67,7 @@ pub fn is_legal(context: CraftContext, state: CraftState, mode: Mode, n: u8) -> 
 // The walk over the pool.
 pub fn legal_moves(context: CraftContext, state: CraftState, mode: Mode) -> u32
     requires { ⌜ CraftIn context state ⌝ }
-    ensures { λ r. ⌜ (r ≡ movesOf context state mode) × Inside r ⌝ }
+    ensures { λ r. ⌜ (r ≡ movesOf context state mode) × SetIn r ⌝ }
 {
     if has_ended(context, state) {
         return 0;

@@ -7,7 +7,7 @@ use borrow.Author.Tests.{not-true, not-false}
 use Rattle.laws.specs.laws.Bits.{has-low}
 use Rattle.laws.specs.laws.Walk.{Walk, start, done, falls, stays, goes}
 use Rattle.action.specs.Known.{actions}
-use Rattle.action_set.specs.Sets.{Inside}
+use Rattle.action_set.specs.Sets.{SetIn}
 use Rattle.moves.specs.Moves.{allowsOf}
 use Rattle.moves.proofs.legal.keep_allowed.Statement.{statement}
 use Rattle.moves.proofs.legal.keep_allowed.Tie as tie
@@ -18,7 +18,7 @@ Inv-loop context state mode set kept₀ remaining₀ kept remaining = Walk actio
 abbrev μ-loop : tie.MeasureT-loop
 μ-loop context state mode set kept₀ remaining₀ kept remaining = remaining
 
-inside : (c : tie.After-allows Inv-loop μ-loop) → Inside (c .before .before .before .before .before .args .set)
+inside : (c : tie.After-allows Inv-loop μ-loop) → SetIn (c .before .before .before .before .before .args .set)
 inside c = c .before .before .before .before .before .pre .1
 
 less : (c : tie.After-allows Inv-loop μ-loop) → c .before .before .before .before .loop .remaining - c .before .bit .result < c .before .before .before .before .loop .remaining

@@ -9,7 +9,7 @@ use lib.Pow.{pow-lt}
 use Rattle.laws.specs.Bits.{has}
 use Rattle.laws.specs.laws.Bits.{has-top, has-keep}
 use Rattle.action.specs.Known.{actions}
-use Rattle.action_set.specs.Sets.{Inside}
+use Rattle.action_set.specs.Sets.{SetIn}
 use Rattle.moves.specs.Moves.{allowsOf}
 use Rattle.moves.proofs.legal.passes.Statement.{statement}
 use Rattle.moves.proofs.legal.passes.Tie as tie
@@ -24,7 +24,7 @@ passes-spec =
     (tie.spec
     (λ c κs. c .before .pre .1)
     (λ c κs. c .before .before .before .pre .1)
-    (λ c κs. let s = c .before .before .before .before in (s .pre .0, subst Inside (sym (c .bit .ensures)) (pow-lt (s .pre .1))))
+    (λ c κs. let s = c .before .before .before .before in (s .pre .0, subst SetIn (sym (c .bit .ensures)) (pow-lt (s .pre .1))))
     (λ c κs. c .before .before .before .before .before .pre .1)
     (λ c.
     let k = c .before in
