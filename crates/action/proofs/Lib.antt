@@ -1,3 +1,3 @@
 mod Same
-mod Kind
 mod Run
+mod Candidate

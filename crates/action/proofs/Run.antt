@@ -10,7 +10,10 @@ use lib.ListN.{length, take, drop, getD}
 use Rattle.laws.specs.laws.Tests.{and-left, and-right}
 use Rattle.laws.specs.laws.Same.{same→eq, below-at}
 use Rattle.text.specs.Bytes.{bytes}
-use Rattle.action.specs.Texts.{texts, entryOf, entryCount}
+use Rattle.action.specs.Table.{actionOf}
+use Rattle.action.specs.Known.{actions}
+use Rattle.action.specs.Names.{nameOf, labelOf}
+use Rattle.action.specs.inner.Texts.{texts, entryOf, entryCount}
 use Rattle.laws.specs.Lists.{same}
 
 unfoldable pub run : List String → List ℕ
@@ -46,3 +49,13 @@ from-test k t =
 pub parts : (k : ℕ) → k < entryCount → Part k
 unfolding run starts texts entryOf
 parts k h = from-test k (below-at right entryCount k h tt)
+
+-- ---- the names, and the labels after them
+
+pub name-entry : (n : ℕ) → n < actions → entryOf n ≡ nameOf n
+unfolding actionOf nameOf texts entryOf
+name-entry n h = same→eq _ _ (below-at (λ n. same (entryOf n) (nameOf n)) actions n h tt)
+
+pub label-entry : (n : ℕ) → n < actions → entryOf (actions + n) ≡ labelOf n
+unfolding actionOf labelOf texts entryOf
+label-entry n h = same→eq _ _ (below-at (λ n. same (entryOf (actions + n)) (labelOf n)) actions n h tt)

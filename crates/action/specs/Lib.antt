@@ -9,5 +9,5 @@ pub mod Gain
 pub mod Wait
 pub mod Bounds
 pub mod Names
-pub mod Texts
+pub mod inner
 pub mod laws

@@ -35,13 +35,6 @@ textOf T.Name n = nameOf n
 textOf T.Label n = labelOf n
 textOf T.Macro n = macroOf n
 
--- no label is longer, and no text
-abbrev pub labelMost : ℕ
-labelMost = 18
-
-abbrev pub textMost : ℕ
-textMost = 33
-
 -- the first action from k on, of `left`, whose name the word is
 unfoldable pub foundFrom : ℕ → ℕ → List ℕ → Found
 foundFrom zero k word = F.Nothing

@@ -6,7 +6,7 @@ ghost use Rattle.text.specs.Over.{Put};
 ghost use Rattle.laws.specs.Lists.{same as Same·same};
 ghost use Rattle.action.specs.Known.{actions};
 ghost use Rattle.action.specs.Names.{nameOf, labelOf, foundOf};
-ghost use Rattle.action.specs.Texts.{entryOf, entryCount, shortest, longest, keyOf};
+ghost use Rattle.action.specs.inner.Texts.{entryOf, entryCount, shortest, longest, keyOf};
 use super::ACTIONS;
 
 // The names in one run, a line for each, and the labels after them.

@@ -2,8 +2,8 @@
 -- Assumes nothing.
 pub mod Gaps
 pub mod Words
-pub mod Next
 pub mod First
 pub mod Lines
 pub mod Seconds
+pub mod inner
 pub mod laws

@@ -1,17 +1,12 @@
 -- A list of actions written as text: each name and byte 10.
 -- Assumes nothing.
 use mathlib.Core.List.{List, [], _∷_, _++_}
-use Prim.Native.Nat.{ℕ, _+_}
+use Prim.Native.Nat.{ℕ}
 use Rattle.action.specs.Names.{nameOf}
-use Rattle.action.specs.Texts.{longest}
 use Rattle.rotation.specs.Gaps.{newline}
 
 unfoldable pub lineOf : ℕ → List ℕ
 lineOf n = nameOf n ++ (newline ∷ [])
-
--- no line is longer
-abbrev pub lineMost : ℕ
-lineMost = longest + 1
 
 unfoldable pub listTextOf : List ℕ → List ℕ
 listTextOf [] = []

@@ -5,7 +5,8 @@ ghost use lib.ListN.{length};
 ghost use Rattle.refusal.specs.Judge.{sizeMost};
 ghost use Rattle.text.specs.Over.{Put};
 ghost use Rattle.action.specs.Known.{actions, knownFront};
-ghost use Rattle.rotation.specs.Lines.{lineOf, lineMost, listTextOf};
+ghost use Rattle.rotation.specs.Lines.{lineOf, listTextOf};
+ghost use Rattle.rotation.specs.inner.Lines.{lineMost};
 use super::gaps::NEWLINE;
 use action::Text;
 

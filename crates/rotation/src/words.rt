@@ -5,7 +5,7 @@ ghost use Prim.Native.Nat.{_≤_};
 ghost use lib.ListN.{length};
 ghost use Rattle.text.specs.Over.{Put};
 ghost use Rattle.rotation.specs.Words.{wordsKnown, actionsIn, countedOf};
-ghost use Rattle.rotation.specs.Next.{nextOf};
+ghost use Rattle.rotation.specs.inner.Next.{nextOf};
 use super::gaps::skip_gaps;
 use super::gaps::skip_letters;
 use action::Found;

@@ -9,7 +9,7 @@ use lib.IntN.{ℤ, pos, negsuc, natAbs}
 use lib.ListN.{length, take, drop, replicate, length-append, length-replicate, length-drop}
 use lib.Seq.{take-all}
 use Rattle.text.specs.Decimal.{decimalOf, signedOf, rightOf}
-use Rattle.text.specs.Spelled.{Spelled, heldOf}
+use Rattle.text.specs.inner.Spelled.{Spelled, heldOf}
 use Rattle.text.specs.declared.decimal.Digits.{Digits}
 
 -- where a number has another digit, the rest of it has one place less

@@ -5,6 +5,6 @@ pub mod Over
 pub mod Digits
 pub mod Decimal
 pub mod Hex
-pub mod Spelled
 pub mod Reading
+pub mod inner
 pub mod laws

@@ -6,7 +6,7 @@ ghost use lib.IntN.{natAbs};
 ghost use lib.ListN.{length};
 ghost use Rattle.text.specs.Over.{Put};
 ghost use Rattle.text.specs.Decimal.{decimalOf, signedOf, rightOf};
-ghost use Rattle.text.specs.Spelled.{Spelled, heldOf};
+ghost use Rattle.text.specs.inner.Spelled.{Spelled, heldOf};
 use crate::append::put;
 
 // A text of at most ten bytes: the last of ten, from `from` on, with spaces before it.

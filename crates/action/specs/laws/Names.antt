@@ -1,4 +1,4 @@
--- Laws of names and labels: where they stand among the texts, how long they are, and that a word's key finds its name.
+-- Laws of names and labels: how long they are, and which action a word finds.
 -- Assumes nothing.
 use mathlib.Core.Path.{_≡_, refl, sym, ap, subst, _∙_}
 use mathlib.Core.Bool.{Bool, true, false, cond}
@@ -7,26 +7,17 @@ use Prim.Native.Nat.{ℕ, zero, suc, _+_, _≤_, _<_}
 use native.Mathlib.Nat.{zero-add, add-zero, suc-add, add-suc}
 use native.Mathlib.Omega.{arith}
 use lib.Dec.{T, leb, leb→le, eqb, eqb→eq}
-use lib.ListN.{length, getD, length-append}
-use Rattle.laws.specs.laws.Tests.{true-false}
+use lib.ListN.{length, length-append}
 use Rattle.laws.specs.Lists.{elem, same}
-use Rattle.laws.specs.laws.Same.{same→eq, same-refl, below-at}
+use Rattle.laws.specs.laws.Same.{same→eq, below-at}
 use Rattle.action.specs.Table.{actionOf}
 use Rattle.action.specs.Known.{actions}
-use Rattle.action.specs.Names.{nameOf, labelOf, quotedOf, macroOf, textOf, foundFrom, foundOf, labelMost, textMost}
-use Rattle.action.specs.Texts.{texts, entryOf, shortest, longest, keyOf, holder, holders}
+use Rattle.action.specs.Names.{nameOf, labelOf, quotedOf, macroOf, textOf, foundFrom, foundOf}
+use Rattle.action.specs.inner.Texts.{shortest, longest, labelMost, textMost}
 use Rattle.action.specs.declared.texts.Text.{Text}
 use Rattle.action.specs.declared.texts.Text.the-variants as T
 use Rattle.action.specs.declared.names.Found.{Found}
 use Rattle.action.specs.declared.names.Found.the-variants as F
-
-pub name-entry : (n : ℕ) → n < actions → entryOf n ≡ nameOf n
-unfolding actionOf nameOf texts entryOf
-name-entry n h = same→eq _ _ (below-at (λ n. same (entryOf n) (nameOf n)) actions n h tt)
-
-pub label-entry : (n : ℕ) → n < actions → entryOf (actions + n) ≡ labelOf n
-unfolding actionOf labelOf texts entryOf
-label-entry n h = same→eq _ _ (below-at (λ n. same (entryOf (actions + n)) (labelOf n)) actions n h tt)
 
 pub name-long : (n : ℕ) → n < actions → shortest ≤ length (nameOf n)
 unfolding actionOf nameOf
@@ -62,17 +53,6 @@ pub quoted-plain : (label : List ℕ) → elem label 32 ≡ false → quotedOf l
 unfolding quotedOf
 quoted-plain label f = rw f
 
--- ---- the candidate
-
--- the candidate of a word: who holds its key
-abbrev pub candidateOf : List ℕ → ℕ
-candidateOf word = getD (holders 64 0) (keyOf word) 0
-
--- each name finds its own action
-pub own-candidate : (n : ℕ) → n < actions → candidateOf (nameOf n) ≡ n
-unfolding actionOf nameOf keyOf holder holders
-own-candidate n h = eqb→eq _ _ (below-at (λ n. eqb (candidateOf (nameOf n)) n) actions n h tt)
-
 -- ---- the search of the definition
 
 -- the word is no name from k on
@@ -98,7 +78,8 @@ is-action : (f : Found) (n : ℕ) → T (isAction f n) → F.Action n ≡ f
 is-action (F.Action k) n t = ap F.Action (sym (eqb→eq k n t))
 is-action F.Nothing n t = absurd t
 
-own-name : (n : ℕ) → n < actions → F.Action n ≡ foundOf (nameOf n)
+-- each name finds its own action
+pub own-name : (n : ℕ) → n < actions → F.Action n ≡ foundOf (nameOf n)
 unfolding actionOf nameOf foundFrom foundOf
 own-name n h = is-action (foundOf (nameOf n)) n (below-at (λ n. isAction (foundOf (nameOf n)) n) actions n h tt)
 
@@ -115,26 +96,3 @@ found-below (suc left) k word {n} e = by (same (nameOf k) word) (found-below lef
 pub found-known : (word : List ℕ) {n : ℕ} → foundOf word ≡ F.Action n → n < actions
 unfolding foundOf
 found-known word e = found-below actions 0 word e
-
--- ---- what `from_name` answers, by how far it came
-
-module _ (word : List ℕ) where
-  pub too-short : length word < shortest → F.Nothing ≡ foundOf word
-  too-short h = found-none word (λ j k e. absurd (omega (arith, name-long j k, ap length e)))
-
-  pub too-long : longest < length word → F.Nothing ≡ foundOf word
-  too-long h = found-none word (λ j k e. absurd (omega (arith, name-short j k, ap length e)))
-
-  pub no-candidate : {n : ℕ} → n ≡ candidateOf word → actions ≤ n → F.Nothing ≡ foundOf word
-  no-candidate e h = found-none word (λ j k i. absurd (omega (arith, ap candidateOf i, own-candidate j k)))
-
-  module _ {n : ℕ} (e : n ≡ candidateOf word) (h : n < actions) where
-    pub other-word : same (nameOf n) word ≡ false → F.Nothing ≡ foundOf word
-    other-word f =
-        found-none word
-        (λ j k i.
-        let m : j ≡ n = sym (own-candidate j k) ∙ ap candidateOf i ∙ sym e in
-        true-false (sym (same-refl word) ∙ ap (λ (w : List ℕ). same w word) (sym i) ∙ ap (λ (x : ℕ). same (nameOf x) word) m ∙ f))
-
-    pub that-word : same (nameOf n) word ≡ true → F.Action n ≡ foundOf word
-    that-word t = own-name n h ∙ ap foundOf (same→eq (nameOf n) word (subst T (sym t) tt))

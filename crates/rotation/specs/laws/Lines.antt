@@ -13,7 +13,8 @@ use Rattle.action.specs.Names.{nameOf, textOf}
 use Rattle.action.specs.laws.Names.{name-short}
 use Rattle.action.specs.declared.texts.Text.the-variants.{Name}
 use Rattle.rotation.specs.Gaps.{newline}
-use Rattle.rotation.specs.Lines.{lineOf, lineMost, listTextOf}
+use Rattle.rotation.specs.Lines.{lineOf, listTextOf}
+use Rattle.rotation.specs.inner.Lines.{lineMost}
 
 -- ---- one line
 

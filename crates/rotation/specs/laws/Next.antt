@@ -17,7 +17,7 @@ use Rattle.action.specs.declared.names.Found.the-variants as F
 use Rattle.rotation.specs.Gaps.{gap, letter}
 use Rattle.rotation.specs.Words.{Word, wordsFrom, allFound, firstUnknown}
 use Rattle.rotation.specs.laws.Words.{gaps-passed, one-word, words-end}
-use Rattle.rotation.specs.Next.{startFrom, endFrom, between, wordIs, nextFrom, nextOf}
+use Rattle.rotation.specs.inner.Next.{startFrom, endFrom, between, wordIs, nextFrom, nextOf}
 use Rattle.rotation.specs.declared.words.Next.{Next}
 use Rattle.rotation.specs.declared.words.Next.the-variants.{End, Unknown, Action}
 use Rattle.laws.specs.Lists.{front}

@@ -9,12 +9,12 @@ use native.Mathlib.Omega.{arith}
 use lib.Dec.{T}
 use lib.ListN.{length, getD}
 use Rattle.laws.specs.laws.Tests.{either, and-left, and-right}
-use Rattle.laws.specs.laws.Same.{same-refl, below-at}
+use Rattle.laws.specs.laws.Same.{below-at}
 use Rattle.action.specs.Table.{actionOf}
 use Rattle.action.specs.Known.{actions, knownFront}
 use Rattle.action.specs.laws.Known.{known-each}
 use Rattle.action.specs.Names.{nameOf, foundOf}
-use Rattle.action.specs.laws.Names.{name-long, own-candidate, that-word}
+use Rattle.action.specs.laws.Names.{name-long, own-name}
 use Rattle.action.specs.declared.names.Found.the-variants.{Action}
 use Rattle.rotation.specs.Gaps.{newline, gap, letter}
 use Rattle.rotation.specs.Words.{Word, ended, wordsFrom, wordsOf, numbers, allFound, actionsIn, wordsKnown}
@@ -30,9 +30,6 @@ letters (b ∷ word) = letter b && letters word
 plain : (n : ℕ) → n < actions → T (letters (nameOf n))
 unfolding actionOf nameOf gap
 plain n h = below-at (λ n. letters (nameOf n)) actions n h tt
-
-own-name : (n : ℕ) → n < actions → foundOf (nameOf n) ≡ Action n
-own-name n h = sym (that-word (nameOf n) (sym (own-candidate n h)) h (same-refl (nameOf n)))
 
 -- letters go on with a word
 letters-passed : (word text : List ℕ) (at : ℕ) (before : List ℕ) → T (letters word) → wordsFrom at before (word ++ text) ≡ wordsFrom at (before ++ word) text
@@ -56,7 +53,7 @@ line-word n text at h =
     ∙ letters-passed (nameOf n) (newline ∷ text) at [] (plain n h)
     ∙ words-gap at (nameOf n) newline text refl
     ∙ ended-some at (nameOf n) _ (omega (arith, name-long n h))
-    ∙ rw (own-name n h)
+    ∙ rw (sym (own-name n h))
 
 -- ---- a list's text
 

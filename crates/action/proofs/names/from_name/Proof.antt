@@ -7,8 +7,8 @@ use lib.ListN.{getD}
 use borrow.Author.Needs.{needs}
 use Rattle.action.specs.Table.{actionOf}
 use Rattle.action.specs.Names.{nameOf}
-use Rattle.action.specs.Texts.{keyOf, holder, holders}
-use Rattle.action.specs.laws.Names.{candidateOf, too-short, too-long, no-candidate, other-word, that-word}
+use Rattle.action.specs.inner.Texts.{keyOf, holder, holders}
+use Rattle.action.proofs.Candidate.{candidateOf, too-short, too-long, no-candidate, other-word, that-word}
 use Rattle.action.proofs.names.from_name.Statement.{statement}
 use Rattle.action.proofs.names.from_name.Tie as tie
 

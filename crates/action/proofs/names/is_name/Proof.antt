@@ -6,9 +6,8 @@ use Prim.Native.Nat.{ℕ}
 use native.Mathlib.Omega.{arith}
 use borrow.Author.Needs.{needs}
 use Rattle.laws.specs.laws.Same.{same-is}
-use Rattle.action.specs.Texts.{texts}
-use Rattle.action.specs.laws.Names.{name-entry}
-use Rattle.action.proofs.Run.{Part, run, starts, parts}
+use Rattle.action.specs.inner.Texts.{texts}
+use Rattle.action.proofs.Run.{Part, run, starts, parts, name-entry}
 use Rattle.action.proofs.names.is_name.Statement.{statement}
 use Rattle.action.proofs.names.is_name.Tie as tie
 use Rattle.laws.specs.Lists.{same}

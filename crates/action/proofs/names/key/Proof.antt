@@ -2,7 +2,7 @@
 -- Assumes nothing.
 use native.Mathlib.Omega.{arith}
 use borrow.Author.Needs.{needs}
-use Rattle.action.specs.Texts.{keyOf}
+use Rattle.action.specs.inner.Texts.{keyOf}
 use Rattle.action.proofs.names.key.Statement.{statement}
 use Rattle.action.proofs.names.key.Tie as tie
 

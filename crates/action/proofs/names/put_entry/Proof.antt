@@ -5,7 +5,7 @@ use native.Mathlib.Omega.{arith}
 use lib.ListN.{length}
 use borrow.Author.Needs.{needs}
 use Rattle.text.specs.laws.Over.{put-as}
-use Rattle.action.specs.Texts.{texts}
+use Rattle.action.specs.inner.Texts.{texts}
 use Rattle.action.proofs.Run.{Part, run, starts, parts}
 use Rattle.action.proofs.names.put_entry.Statement.{statement}
 use Rattle.action.proofs.names.put_entry.Tie as tie

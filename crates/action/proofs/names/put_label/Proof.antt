@@ -5,7 +5,7 @@ use native.Mathlib.Omega.{arith}
 use lib.ListN.{length}
 use borrow.Author.Needs.{needs}
 use Rattle.text.specs.laws.Over.{put-as}
-use Rattle.action.specs.laws.Names.{label-entry}
+use Rattle.action.proofs.Run.{label-entry}
 use Rattle.action.proofs.names.put_label.Statement.{statement}
 use Rattle.action.proofs.names.put_label.Tie as tie
 

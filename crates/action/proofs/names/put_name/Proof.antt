@@ -5,7 +5,7 @@ use native.Mathlib.Omega.{arith}
 use lib.ListN.{length}
 use borrow.Author.Needs.{needs}
 use Rattle.text.specs.laws.Over.{put-as}
-use Rattle.action.specs.laws.Names.{name-entry}
+use Rattle.action.proofs.Run.{name-entry}
 use Rattle.action.proofs.names.put_name.Statement.{statement}
 use Rattle.action.proofs.names.put_name.Tie as tie
 

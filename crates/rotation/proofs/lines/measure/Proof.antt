@@ -5,7 +5,8 @@ use Prim.Native.Nat.{_+_, _*_, _-_, _≤_}
 use native.Mathlib.Omega.{arith}
 use lib.ListN.{length, drop}
 use Rattle.action.specs.laws.Known.{known-each}
-use Rattle.rotation.specs.Lines.{lineMost, listTextOf}
+use Rattle.rotation.specs.Lines.{listTextOf}
+use Rattle.rotation.specs.inner.Lines.{lineMost}
 use Rattle.rotation.specs.laws.Lines.{lines-length, lines-end}
 use Rattle.rotation.proofs.lines.measure.Statement.{statement}
 use Rattle.rotation.proofs.lines.measure.Tie as tie

@@ -5,7 +5,7 @@ use borrow.Author.Needs.{needs}
 use Rattle.text.specs.laws.Over.{put-as}
 use Rattle.text.proofs.SpelledLaws.{spelled-count, spelled-right}
 use Rattle.text.specs.laws.Lengths.{right-length}
-use Rattle.text.specs.Spelled.{heldOf}
+use Rattle.text.specs.inner.Spelled.{heldOf}
 use Rattle.text.proofs.decimal.put_right.Statement.{statement}
 use Rattle.text.proofs.decimal.put_right.Tie as tie
 

@@ -10,7 +10,7 @@ use mir.Syntax.{w8}
 use mir.ValLaws.{toZ-ofZ}
 use Rattle.laws.specs.laws.Sign.{Negative, negative, Plain, plain}
 use Rattle.text.specs.laws.Lengths.{decimal-length}
-use Rattle.text.specs.Spelled.{Spelled}
+use Rattle.text.specs.inner.Spelled.{Spelled}
 use Rattle.text.proofs.SpelledLaws.{spelled-count, spelled-held, spelled-self, signed-negative, signed-plain}
 use Rattle.text.proofs.decimal.spell_signed.Statement.{statement}
 use Rattle.text.proofs.decimal.spell_signed.Tie as tie

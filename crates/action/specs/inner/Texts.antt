@@ -1,4 +1,4 @@
--- How the names and labels are kept as data: one run, and a key by which a word's only candidate is found.
+-- For the contracts of inner functions: how the code keeps names and labels, as one run, and the key by which it finds a word's only candidate.
 -- Assumes nothing.
 use mathlib.Core.Bool.{cond}
 use mathlib.Core.List.{List, [], _∷_, _++_}
@@ -36,7 +36,7 @@ entry (s ∷ rest) (suc k) = entry rest k
 unfoldable pub entryOf : ℕ → List ℕ
 entryOf k = bytes (entry texts k)
 
--- ---- the key
+-- ---- how much room they take
 
 -- no name is shorter, and none is longer
 abbrev pub shortest : ℕ
@@ -44,6 +44,15 @@ shortest = 7
 
 abbrev pub longest : ℕ
 longest = 24
+
+-- no label is longer, and no text
+abbrev pub labelMost : ℕ
+labelMost = 18
+
+abbrev pub textMost : ℕ
+textMost = 33
+
+-- ---- the key
 
 unfoldable pub keyOf : List ℕ → ℕ
 keyOf word = (getD word 0 0 + 8 * getD word 3 0 + 11 * length word) % 64

@@ -1,0 +1,8 @@
+-- For the contract of the inner function `line_len`: how much room the code keeps for a line.
+-- Assumes nothing.
+use Prim.Native.Nat.{ℕ, _+_}
+use Rattle.action.specs.inner.Texts.{longest}
+
+-- no line is longer
+abbrev pub lineMost : ℕ
+lineMost = longest + 1
