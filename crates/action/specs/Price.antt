@@ -1,8 +1,8 @@
--- What an action costs in points, by the combo that it continues.
+-- Document 01, 'One action', 6: the price of an action in points, by the combo that it continues; and 'Context': 'no cost counts 0'.
 -- Assumes nothing.
-use mathlib.Core.Bool.{Bool, false, cond}
+use mathlib.Core.Bool.{Bool, true, false, cond}
 use Prim.Native.Nat.{ℕ}
-use lib.Dec.{eqb}
+use lib.Dec.{eqb, leb}
 use Rattle.action.specs.Actions as A
 use Rattle.action.specs.Limits.{discountPrice}
 use Rattle.action.specs.declared.table.Amount.{Amount}
@@ -26,7 +26,15 @@ abbrev pub chargedOf : ℕ → Combo → Amount → Amount
 chargedOf n combo (Of base) = Of (priceOf n combo base)
 chargedOf n combo Nothing = Nothing
 
--- in points: no cost is 0 of them
+-- no cost counts 0
+abbrev pub pointsOf : Amount → ℕ
+pointsOf (Of points) = points
+pointsOf Nothing = 0
+
 abbrev pub chargeOf : ℕ → Combo → Amount → ℕ
-chargeOf n combo (Of base) = priceOf n combo base
-chargeOf n combo Nothing = 0
+chargeOf n combo cost = pointsOf (chargedOf n combo cost)
+
+-- so many points are enough for a price; where there is none, any are
+abbrev pub affordable : ℕ → Amount → Bool
+affordable points (Of cost) = leb cost points
+affordable points Nothing = true

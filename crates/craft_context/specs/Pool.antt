@@ -1,20 +1,14 @@
 -- Which actions a player has for a recipe.
 -- Assumes nothing.
-use mathlib.Core.Bool.{Bool, true, cond, not, _&&_, _||_}
+use mathlib.Core.Bool.{Bool, cond, not, _&&_, _||_}
 use Prim.Native.Nat.{ℕ, _-_}
 use lib.Dec.{eqb, leb}
 use Rattle.action.specs.Actions as A
 use Rattle.action.specs.Table.{attributesOf}
-use Rattle.action.specs.declared.table.Amount.{Amount}
-use Rattle.action.specs.declared.table.Amount.the-variants as M
+use Rattle.action.specs.Price.{affordable}
 use Rattle.action_set.specs.Sets.{setOf}
 use Rattle.craft_context.specs.declared.sheet.Player.{Player}
 use Rattle.craft_context.specs.declared.sheet.Recipe.{Recipe}
-
--- no cost counts 0
-abbrev pub affordable : ℕ → Amount → Bool
-affordable cp (M.Of cost) = leb cost cp
-affordable cp M.Nothing = true
 
 -- player level minus recipe level, not below 0
 abbrev pub ahead : Player → Recipe → ℕ

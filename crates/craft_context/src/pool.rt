@@ -1,6 +1,7 @@
 // Which actions a player has for a recipe.
 ghost use mathlib.Core.Path.{_≡_};
-ghost use Rattle.craft_context.specs.Pool.{affordable, ahead, able, twinOf, inPool, poolOf};
+ghost use Rattle.action.specs.Price.{affordable};
+ghost use Rattle.craft_context.specs.Pool.{ahead, able, twinOf, inPool, poolOf};
 use super::sheet::Player;
 use super::sheet::Recipe;
 use action::Amount;

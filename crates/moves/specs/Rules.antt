@@ -9,6 +9,7 @@ use Rattle.laws.specs.Bits.{has}
 use Rattle.action.specs.Actions as A
 use Rattle.action.specs.Limits.{quietMost}
 use Rattle.action.specs.Gain.{progressGainOf}
+use Rattle.action.specs.Price.{affordable}
 use Rattle.action.specs.declared.table.Amount.{Amount}
 use Rattle.action.specs.declared.table.Amount.the-variants.{Of, Nothing}
 use Rattle.action.specs.declared.table.Attributes.{Attributes}
@@ -25,8 +26,7 @@ use Rattle.step.specs.Parts.{onBasicTouch, wear}
 
 -- the full price, whatever combo the candidate would continue: the source reads the last action, which never has a discount
 abbrev pub affords : CraftState → ℕ → Amount → Bool
-affords s n (Of cost) = leb cost (s .cp)
-affords s n Nothing = true
+affords s n cost = affordable (s .cp) cost
 
 -- no quality action once quality is at its target
 abbrev pub mayImprove : CraftContext → CraftState → Amount → Bool

@@ -1,11 +1,11 @@
--- Numbers in decimal.
+-- Document 01, 'Text', the Display line as in the source: its numbers are in decimal, right-aligned, and durability has a sign.
 -- Assumes nothing.
-use mathlib.Core.List.{List, [], _∷_, _++_}
+use mathlib.Core.List.{List, _∷_, _++_}
 use Prim.Native.Nat.{ℕ, suc, _+_, _-_}
 use lib.Dec.{ltb}
 use lib.IntN.{ℤ, pos, negsuc}
 use lib.ListN.{length, replicate}
-use Rattle.text.specs.Digits.{Notation, digitsBefore}
+use Rattle.text.specs.Digits.{Notation, digitsOf}
 
 -- no zero leads
 abbrev pub decimal : Notation
@@ -13,8 +13,8 @@ decimal = record { base = 10; digit = λ d. 48 + d; alone = λ n. ltb n 10 }
 
 -- n below 10 ^ 10 in decimal
 unfoldable pub decimalOf : ℕ → List ℕ
-unfolding digitsBefore
-decimalOf n = digitsBefore decimal 10 n []
+unfolding digitsOf
+decimalOf n = digitsOf decimal 10 n
 
 -- a signed number in decimal, with a minus sign before a negative one
 unfoldable pub signedOf : ℤ → List ℕ

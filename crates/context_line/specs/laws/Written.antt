@@ -10,10 +10,8 @@ use lib.Dec.{eqb}
 use lib.ListN.{length, take, drop, getD, length-append}
 use lib.Seq.{take-append-seam, drop-append-add, getD-append-seam}
 use Rattle.laws.specs.laws.Tests.{and-both}
-use Rattle.text.specs.Digits.{Notation, digitsBefore}
-use Rattle.text.specs.laws.Digits.{digits-cases}
-use Rattle.text.specs.Decimal.{decimal, decimalOf}
-use Rattle.text.specs.laws.Lengths.{decimal-length}
+use Rattle.text.specs.Decimal.{decimalOf}
+use Rattle.text.specs.laws.Lengths.{decimal-length, decimal-some}
 use Rattle.text.specs.Reading.{valueOf, Each, DecimalDigit}
 use Rattle.text.specs.laws.Value.{decimal-value, decimal-digits}
 use Rattle.context_line.specs.Shape.{digits, digitsMost, wide, shaped, valuesOf, fields, others, lineShaped, numbersOf}
@@ -34,20 +32,6 @@ abbrev pub Brief : ℕ → Type 0
 Brief n = n < 10 ^ digitsMost
 
 -- ---- a number at the front of a text
-
-longer : (s : Notation) (k n : ℕ) (after : List ℕ) → length after ≤ length (digitsBefore s k n after)
-unfolding digitsBefore
-longer s zero n after = omega arith
-longer s (suc k) n after =
-    let more = longer s k (n / s .base) (s .digit (n % s .base) ∷ after) in
-    digits-cases s (λ t. length after ≤ length t) k n after (λ e. omega arith) (λ e. omega arith)
-
--- no number is written in no digits
-decimal-some : (n : ℕ) → 1 ≤ length (decimalOf n)
-unfolding decimalOf
-decimal-some n =
-    let more = longer decimal 9 (n / 10) ((48 + n % 10) ∷ []) in
-    digits-cases decimal (λ t. 1 ≤ length t) 9 n [] (λ e. omega arith) (λ e. omega arith)
 
 -- digits before a text that starts with none
 digits-through : (a b : List ℕ) → Each DecimalDigit a → digits b ≡ 0 → digits (a ++ b) ≡ length a

@@ -18,11 +18,11 @@ use Rattle.text.specs.Reading.{valueOf, hexRead, hexValueOf, signedValue
 
 pub decimal-value : (n : ℕ) → n < 10 ^ 10 → valueOf (decimalOf n) ≡ n
 unfolding decimalOf
-decimal-value n h = digits-value decimal (omega arith) (λ b. b - 48) (λ d l. omega arith) (λ m e. ltb-true m 10 e) 10 n [] h
+decimal-value n h = digits-value decimal (omega arith) (λ b. b - 48) (λ d l. omega arith) (λ m e. ltb-true m 10 e) 10 n h
 
 pub decimal-digits : (n : ℕ) → Each DecimalDigit (decimalOf n)
 unfolding decimalOf
-decimal-digits n = each-digit decimal (omega arith) DecimalDigit (λ d l. omega arith) 10 n [] tt
+decimal-digits n = each-digit decimal (omega arith) DecimalDigit (λ d l. omega arith) 10 n
 
 -- a text of digits has no minus sign
 unsigned : (text : List ℕ) → Each DecimalDigit text → signedValueOf text ≡ pos (valueOf text)
@@ -40,4 +40,4 @@ hex-reads d h = eqb→eq _ d (below-at (λ (m : ℕ). eqb (hexRead (hexDigit m))
 
 pub hex-value : (n : ℕ) → n < 2 ^ 32 → hexValueOf (hexOf n) ≡ n
 unfolding hexOf
-hex-value n h = digits-value hex (omega arith) hexRead hex-reads (λ m e. absurd (true-false (sym e))) 8 n [] h
+hex-value n h = digits-value hex (omega arith) hexRead hex-reads (λ m e. absurd (true-false (sym e))) 8 n h
