@@ -37,11 +37,10 @@ same-row a b t =
     let t2 = both (sameAmount (a .«progress_efficiency») (b .«progress_efficiency»)) _ (t1 .1) in
     let t3 = both (sameAmount (a .«quality_efficiency») (b .«quality_efficiency»)) _ (t2 .1) in
     let t4 = both (sameAmount (a .«durability_cost») (b .«durability_cost»)) _ (t3 .1) in
-    rw
-    (
-    eqb→eq (a .level) (b .level) (t1 .0),
-    same-amount (a .«progress_efficiency») (b .«progress_efficiency») (t2 .0),
-    same-amount (a .«quality_efficiency») (b .«quality_efficiency») (t3 .0),
-    same-amount (a .«durability_cost») (b .«durability_cost») (t4 .0),
-    same-amount (a .«cp_cost») (b .«cp_cost») (t4 .1)
+    rw (
+      eqb→eq (a .level) (b .level) (t1 .0),
+      same-amount (a .«progress_efficiency») (b .«progress_efficiency») (t2 .0),
+      same-amount (a .«quality_efficiency») (b .«quality_efficiency») (t3 .0),
+      same-amount (a .«durability_cost») (b .«durability_cost») (t4 .0),
+      same-amount (a .«cp_cost») (b .«cp_cost») (t4 .1),
     )

@@ -1,4 +1,4 @@
--- The actions by name: the numbers of the table.
+-- Document 01, 'Action table': the actions 'numbered in the declaration order of `create_actions!`', 0 to 30, by name.
 -- Assumes nothing.
 use Prim.Native.Nat.{ℕ}
 

@@ -1,4 +1,4 @@
--- An amount that may be absent, which is not 0: whether it is there, and its bounds where it is.
+-- Document 01, 'Action table': 'an attribute left out there is none, which differs from 0'. Whether it is there, and its bounds where it is.
 -- Assumes nothing.
 use mathlib.Core.Bool.{Bool, true, false}
 use Prim.Native.Nat.{ℕ, _≤_}

@@ -1,4 +1,4 @@
--- What the engine above the table uses of a row: its bounds, over any row, and never its numbers.
+-- Document 02's bounds of a row, of which document 01's table is one: what the engine above the table uses of any row, and never its numbers.
 -- Assumes nothing.
 use mathlib.Core.Path.{_≡_}
 use Prim.Native.Nat.{ℕ}

@@ -1,4 +1,4 @@
--- What an action adds to progress and quality.
+-- Document 01, 'One action', 2 and 3: what an action adds to progress and quality.
 -- Assumes nothing.
 use mathlib.Core.Bool.{cond}
 use Prim.Native.Nat.{ℕ, _+_, _*_, _/_, _≤_}

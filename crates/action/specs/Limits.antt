@@ -1,4 +1,4 @@
--- The limits that an action's numbers rest on.
+-- Document 01, 'Limits', and document 02's bounds of a row: those that an action's numbers rest on.
 -- Assumes nothing.
 use Prim.Native.Nat.{ℕ, _-_}
 

@@ -1,4 +1,4 @@
--- The texts of an action: name, label and macro text, and the action that a name names.
+-- Document 01, 'Text': '`name`, `label`, `macro_text` as in the source', and the action that a word is 'exactly' the name of.
 -- Assumes nothing.
 use mathlib.Core.Bool.{Bool, true, false, cond}
 use mathlib.Core.List.{List, [], _∷_, _++_}

@@ -1,4 +1,5 @@
--- The table of action.rs: name, label, level, progress, quality, durability, cp. `Nothing` is an attribute left out, which is not 0.
+-- Document 01, 'Action table': name, label, level, progress, quality, durability and cp as in the list of action.rs.
+-- `Nothing` is an attribute left out there, which differs from 0.
 -- Assumes nothing.
 use mathlib.Core.List.{List, [], _∷_}
 use Prim.Native.Nat.{ℕ, zero, suc}

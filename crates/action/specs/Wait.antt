@@ -1,4 +1,4 @@
--- How long a macro waits for an action, in seconds.
+-- Document 01, 'Text', the waits of `macro_text` as in the source, and 'Slips that look right': 'six actions have wait 2, MastersMend has 3'.
 -- Assumes nothing.
 use mathlib.Core.Bool.{cond, _||_}
 use Prim.Native.Nat.{ℕ}

@@ -1,4 +1,4 @@
--- What an action costs in durability.
+-- Document 01, 'One action', 4: what an action costs in durability.
 -- Assumes nothing.
 use mathlib.Core.Bool.{Bool, cond, _||_}
 use Prim.Native.Nat.{ℕ, _/_}

@@ -39,7 +39,10 @@ pub fn attributes_of(n: u8) -> Attributes
         1 => row(5, Nothing, Of(100), Of(10), Of(18)),
         2 => row(7, Nothing, Nothing, Of(0), Of(88)),
         3 => row(13, Nothing, Nothing, Of(0), Of(7)),
-        4..=5 => row(15, Nothing, Nothing, Nothing, Of(if n == 4 { 56 } else { 18 })),
+        4..=5 => {
+            let cp = if n == 4 { 56 } else { 18 };
+            row(15, Nothing, Nothing, Nothing, Of(cp))
+        }
         6 => row(18, Nothing, Of(125), Of(10), Of(32)),
         7 => row(21, Nothing, Nothing, Nothing, Of(32)),
         8 => row(26, Nothing, Nothing, Nothing, Of(18)),
@@ -62,7 +65,10 @@ pub fn attributes_of(n: u8) -> Attributes
         25 => row(90, Nothing, Of(100), Nothing, Of(32)),
         26 => row(92, Nothing, Of(100), Of(10), Of(24)),
         27 => row(94, Of(150), Of(100), Of(10), Of(32)),
-        28 | 30 => row(if n == 28 { 96 } else { 100 }, Nothing, Nothing, Of(0), Nothing),
+        28 | 30 => {
+            let level = if n == 28 { 96 } else { 100 };
+            row(level, Nothing, Nothing, Of(0), Nothing)
+        }
         29 => row(98, Nothing, Nothing, Of(0), Of(112)),
         31..=255 => row(0, Nothing, Nothing, Nothing, Nothing),
     }

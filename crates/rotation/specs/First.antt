@@ -1,4 +1,5 @@
--- What the offset of refusal 5 is: the start of the first word that is no name.
+-- Document 01, refusal 5, 'the first's byte offset': the start of the first word that is no name, said of the text and not of its words.
+-- No contract cites it: the theorem `unknown-first` says that the definition's offset is this one, and `first-unknown` that no other is.
 -- Assumes nothing.
 use mathlib.Core.Path.{_≡_}
 use mathlib.Core.Bool.{true}

@@ -1,4 +1,4 @@
--- The bytes that part words: tab, newline, carriage return and space.
+-- Document 01, 'Text': 'words parted by bytes 9, 10, 13, 32', which are tab, newline, carriage return and space.
 -- Assumes nothing.
 use mathlib.Core.Bool.{Bool, not, _||_}
 use Prim.Native.Nat.{ℕ}

@@ -1,4 +1,4 @@
--- A list of actions written as text: each name and byte 10.
+-- Document 01, 'Text': a list is 'written as each name and byte 10'.
 -- Assumes nothing.
 use mathlib.Core.List.{List, [], _∷_, _++_}
 use Prim.Native.Nat.{ℕ}

@@ -1,4 +1,4 @@
--- A list's macro time: the sum of its waits, in seconds.
+-- Document 01, 'Text': 'a list's macro time is the sum of its waits in seconds'.
 -- Assumes nothing.
 use mathlib.Core.List.{List, [], _∷_}
 use Prim.Native.Nat.{ℕ, _+_}

@@ -1,4 +1,4 @@
--- A list of actions read from text: its words, the actions that they name, and refusal 5.
+-- Document 01, 'Text': 'a list is words .., each exactly a name', and refusal 5, an 'unknown word', with 'the first's byte offset'.
 -- Assumes nothing.
 use mathlib.Core.Bool.{Bool, true, cond, _&&_}
 use mathlib.Core.List.{List, [], _∷_, _++_}

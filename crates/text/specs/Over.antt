@@ -1,4 +1,4 @@
--- A text stored in lent room: what every writer leaves.
+-- Document 01, 'What comes back on refusal': 'a success writes its length and no further'. A text stored in lent room: what every writer leaves.
 -- Assumes nothing.
 use mathlib.Core.Path.{_≡_}
 use mathlib.Core.List.{List}

@@ -1,4 +1,5 @@
--- Numbers read from their digits: what the theorems of Value.antt say of the texts.
+-- Numbers read from their digits: the values of the digits in document 01's 'The replay program', line one, and what the theorems of
+-- laws/Value.antt say of the texts that are written.
 -- Assumes nothing.
 use mathlib.Core.Bool.{cond}
 use mathlib.Core.List.{List, [], _∷_}

@@ -29,7 +29,8 @@ within-at-most most (Of amount) t = leb→le amount most t
 within-at-most most Nothing t = tt
 
 -- one attribute over the whole table, by a test that computes
-each : (most : ℕ) (field : Attributes → Amount) → T (below (λ n. within most (field (attributesOf n))) actions) → (n : ℕ) → n < actions → AtMost most (field (attributesOf n))
+each : (most : ℕ) (field : Attributes → Amount) → T (below (λ n. within most (field (attributesOf n))) actions)
+    → (n : ℕ) → n < actions → AtMost most (field (attributesOf n))
 each most field t n h = within-at-most most (field (attributesOf n)) (below-at (λ n. within most (field (attributesOf n))) actions n h t)
 
 -- THE theorem of the table: each row of ours has the bounds

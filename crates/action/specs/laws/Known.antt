@@ -28,7 +28,8 @@ unfolding knownFront
 all-front [] = refl
 all-front (n ∷ rest) = by (known n) (all-front rest)
   where
-    by : (b : Bool) → allKnown rest ≡ leb (length rest) (knownFront rest) → (b && allKnown rest) ≡ leb (suc (length rest)) (cond b (suc (knownFront rest)) 0)
+    by : (b : Bool) → allKnown rest ≡ leb (length rest) (knownFront rest)
+        → (b && allKnown rest) ≡ leb (suc (length rest)) (cond b (suc (knownFront rest)) 0)
     by true e = rw compare·suc-suc e
     by false e = sym (lt-leb (suc (length rest)) 0 (omega arith))
 

@@ -60,7 +60,8 @@ none-from : (left k : ℕ) (word : List ℕ) → ((j : ℕ) → j < left → sam
 unfolding foundFrom
 none-from zero k word f = refl
 none-from (suc left) k word f =
-    rw (simp add-zero at (f 0 (omega arith))) (none-from left (suc k) word (λ j h. subst (λ (x : ℕ). same (nameOf x) word ≡ false) (add-suc k j ∙ sym (suc-add k j)) (f (suc j) (omega arith))))
+    rw (simp add-zero at (f 0 (omega arith)))
+    (none-from left (suc k) word (λ j h. subst (λ (x : ℕ). same (nameOf x) word ≡ false) (add-suc k j ∙ sym (suc-add k j)) (f (suc j) (omega arith))))
 
 pub found-none : (word : List ℕ) → ((j : ℕ) → j < actions → nameOf j ≡ word → ⊥) → F.Nothing ≡ foundOf word
 unfolding foundOf
@@ -89,7 +90,8 @@ unfolding foundFrom
 found-below zero k word e = let z : _≡_ {A = ℕ} 0 1 = cc in absurd (omega arith)
 found-below (suc left) k word {n} e = by (same (nameOf k) word) (found-below left (suc k) word) e
   where
-    by : (b : Bool) → (foundFrom left (suc k) word ≡ F.Action n → n < suc k + left) → cond b (F.Action k) (foundFrom left (suc k) word) ≡ F.Action n → n < k + suc left
+    by : (b : Bool) → (foundFrom left (suc k) word ≡ F.Action n → n < suc k + left)
+        → cond b (F.Action k) (foundFrom left (suc k) word) ≡ F.Action n → n < k + suc left
     by true later e = let m : k ≡ n = cc in omega arith
     by false later e = omega (arith, later e)
 

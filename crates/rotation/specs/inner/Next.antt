@@ -1,4 +1,5 @@
--- What follows a place of a text, as the code finds it: it passes gaps, and then the bytes up to the next one.
+-- For the contract of the inner function `next_word`: what follows a place of a text, as the code finds it.
+-- It passes gaps, and then the bytes up to the next one.
 -- Assumes nothing.
 use mathlib.Core.Bool.{cond}
 use mathlib.Core.List.{List}

@@ -50,4 +50,5 @@ module _ (text : List ℕ) {counted : Counted} (e : counted ≡ countedOf text) 
     pub stop-within : k < length text
     stop-within =
         let first = unknown-first text (one-unknown .0) in
-        omega (arith, first .some, length-take (front letter (drop (unknownAt text) text)) (drop (unknownAt text) text), length-drop (unknownAt text) text, one-unknown .1)
+        let word = length-take (front letter (drop (unknownAt text) text)) (drop (unknownAt text) text) in
+        omega (arith, first .some, word, length-drop (unknownAt text) text, one-unknown .1)

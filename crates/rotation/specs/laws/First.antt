@@ -65,7 +65,8 @@ abbrev Located : ℕ → List ℕ → List ℕ → List Word → Type 0
 Located at word text words = allFound words ≡ false → Here at word text (firstUnknown words) ⊎ Later at word text (firstUnknown words)
 
 -- past a letter
-past-letter : (at : ℕ) (word : List ℕ) (b : ℕ) (text : List ℕ) (k : ℕ) → gap b ≡ false → Here at (word ++ (b ∷ [])) text k ⊎ Later at (word ++ (b ∷ [])) text k → Here at word (b ∷ text) k ⊎ Later at word (b ∷ text) k
+past-letter : (at : ℕ) (word : List ℕ) (b : ℕ) (text : List ℕ) (k : ℕ) → gap b ≡ false
+    → Here at (word ++ (b ∷ [])) text k ⊎ Later at (word ++ (b ∷ [])) text k → Here at word (b ∷ text) k ⊎ Later at word (b ∷ text) k
 past-letter at word b text k e (inl h) =
     let same : (word ++ (b ∷ [])) ++ wordAt text 0 ≡ word ++ wordAt (b ∷ text) 0 = simp (e, append-assoc) in
     inl (record { place = h .place; some = rw same at (h .some); unknown = rw same at (h .unknown) })
@@ -145,7 +146,8 @@ some-letter (b ∷ text) h = (omega arith, by (gap b) refl h)
     by false e h = refl
 
 -- an unknown word that a text starts with
-starts-unknown : (text : List ℕ) (at : ℕ) → 0 < length (wordAt text 0) → foundOf (wordAt text 0) ≡ Nothing → (allFound (wordsFrom at [] text) ≡ false) × (firstUnknown (wordsFrom at [] text) ≡ at)
+starts-unknown : (text : List ℕ) (at : ℕ) → 0 < length (wordAt text 0) → foundOf (wordAt text 0) ≡ Nothing
+    → (allFound (wordsFrom at [] text) ≡ false) × (firstUnknown (wordsFrom at [] text) ≡ at)
 starts-unknown text at h u =
     let s = some-letter text h in
     let w = one-word text at (s .0) (s .1) .0 in
@@ -160,11 +162,14 @@ after-known (w ∷ words) more t =
     (rw (b .0) (o .0), rw (b .0) (o .1))
 
 -- the words up to place j, before the gap there, and those after it
-parted-words : (text : List ℕ) (j : ℕ) → j < length text → gap (getD text j 0) ≡ true → wordsFrom 0 [] text ≡ wordsFrom 0 [] (take (suc j) text) ++ wordsFrom (suc j) [] (drop (suc j) text)
+parted-words : (text : List ℕ) (j : ℕ) → j < length text → gap (getD text j 0) ≡ true
+    → wordsFrom 0 [] text ≡ wordsFrom 0 [] (take (suc j) text) ++ wordsFrom (suc j) [] (drop (suc j) text)
 parted-words text j h e =
     let n : 0 + 0 + length (take j text) + 1 ≡ suc j = omega (arith, length-take j text) in
     let ends : wordsFrom 0 [] (take (suc j) text) ≡ wordsFrom 0 [] (take j text) =
-    ap (wordsFrom 0 []) (take-suc text j 0 h) ∙ words-seam (take j text) 0 [] (getD text j 0) [] e ∙ ap (λ (w : List Word). wordsFrom 0 [] (take j text) ++ w) (words-end _ []) ∙ append-nil _
+    ap (wordsFrom 0 []) (take-suc text j 0 h)
+    ∙ words-seam (take j text) 0 [] (getD text j 0) [] e
+    ∙ ap (λ (w : List Word). wordsFrom 0 [] (take j text) ++ w) (words-end _ []) ∙ append-nil _
     in
     ap (wordsFrom 0 []) (split-at text j 0 h)
     ∙ words-seam (take j text) 0 [] (getD text j 0) (drop (suc j) text) e

@@ -42,7 +42,8 @@ module _ (list : List ℕ) (i : ℕ) (h : i < length list) where
   lines-length = ap length lines-on ∙ length-append (lineOf (getD list i 0)) _
 
   -- a line is put, and what is left goes after it
-  pub lines-turn : {out : List ℕ} {at r : ℕ} {after : List ℕ} → Put out at (lineOf (getD list i 0)) r after → over after r (listTextOf (drop (i + 1) list)) ≡ over out at (listTextOf (drop i list))
+  pub lines-turn : {out : List ℕ} {at r : ℕ} {after : List ℕ} → Put out at (lineOf (getD list i 0)) r after
+      → over after r (listTextOf (drop (i + 1) list)) ≡ over out at (listTextOf (drop i list))
   lines-turn {out} {at} p = rw (p .same, p .next) (over-more (lineOf (getD list i 0)) _ out at ∙ ap (over out at) (sym lines-on))
 
 pub lines-end : (list : List ℕ) {i : ℕ} → length list ≤ i → listTextOf (drop i list) ≡ []

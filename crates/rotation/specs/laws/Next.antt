@@ -51,17 +51,23 @@ module _ (text : List ℕ) {at : ℕ} (h : at ≤ length text) where
   module _ (k : startFrom text at < length text) where
     starts : gap (getD (drop (startFrom text at) text) 0 0) ≡ false
     starts =
-        ap gap (getD-drop (startFrom text at) text 0 0 ∙ ap (λ (i : ℕ). getD text i 0) (add-zero (startFrom text at)) ∙ sym (getD-drop at text (front gap (drop at text)) 0))
+        ap gap
+        (getD-drop (startFrom text at) text 0 0
+        ∙ ap (λ (i : ℕ). getD text i 0) (add-zero (startFrom text at))
+        ∙ sym (getD-drop at text (front gap (drop at text)) 0))
         ∙ front-after gap (drop at text) (omega (arith, length-drop at text))
 
-    a-word : (0 < front letter (drop (startFrom text at) text)) × (wordsAt text at ≡ word (startFrom text at) (foundOf (between text (startFrom text at) (endFrom text (startFrom text at)))) ∷ wordsAt text (endFrom text (startFrom text at)))
+    a-word : (0 < front letter (drop (startFrom text at) text))
+        × (wordsAt text at
+        ≡ word (startFrom text at) (foundOf (between text (startFrom text at) (endFrom text (startFrom text at)))) ∷ wordsAt text (endFrom text (startFrom text at)))
     a-word =
         let start = startFrom text at in
         let o = one-word (drop start text) start (omega (arith, length-drop start text)) starts in
         let n : endFrom text start - start ≡ front letter (drop start text) = omega arith in
         (o .1, from-start ∙ simp n (simp drop-drop at (o .0)))
 
-    first : (found : Found) → wordsAt text at ≡ word (startFrom text at) found ∷ wordsAt text (endFrom text (startFrom text at)) → Follows text at (wordIs (startFrom text at) (endFrom text (startFrom text at)) found)
+    first : (found : Found) → wordsAt text at ≡ word (startFrom text at) found ∷ wordsAt text (endFrom text (startFrom text at))
+        → Follows text at (wordIs (startFrom text at) (endFrom text (startFrom text at)) found)
     first (F.Action n) e =
         record {
           more = omega (arith, a-word .0);

@@ -46,7 +46,8 @@ ended-some at [] more h = absurd (omega arith)
 ended-some at (b ∷ word) more h = refl
 
 -- the first word of a list's text is its first action
-line-word : (n : ℕ) (text : List ℕ) (at : ℕ) → n < actions → wordsFrom at [] (lineOf n ++ text) ≡ record { at = at; found = Action n } ∷ wordsFrom (at + length (nameOf n) + 1) [] text
+line-word : (n : ℕ) (text : List ℕ) (at : ℕ) → n < actions
+    → wordsFrom at [] (lineOf n ++ text) ≡ record { at = at; found = Action n } ∷ wordsFrom (at + length (nameOf n) + 1) [] text
 unfolding lineOf gap
 line-word n text at h =
     ap (wordsFrom at []) (append-assoc (nameOf n) (newline ∷ []) text)
@@ -57,7 +58,8 @@ line-word n text at h =
 
 -- ---- a list's text
 
-reads-back : (list : List ℕ) (at : ℕ) → ((i : ℕ) → i < length list → getD list i 0 < actions) → (numbers (wordsFrom at [] (listTextOf list)) ≡ list) × (allFound (wordsFrom at [] (listTextOf list)) ≡ true)
+reads-back : (list : List ℕ) (at : ℕ) → ((i : ℕ) → i < length list → getD list i 0 < actions)
+    → (numbers (wordsFrom at [] (listTextOf list)) ≡ list) × (allFound (wordsFrom at [] (listTextOf list)) ≡ true)
 unfolding listTextOf
 reads-back [] at k = rw words-end (refl, refl)
 reads-back (n ∷ rest) at k =

@@ -31,7 +31,8 @@ unfolding wordsFrom
 words-cases P at word b text f g =
     ⊎-elim (λ (e : gap b ≡ true). rw e (f e)) (λ (e : gap b ≡ false). rw e (g e)) (either (gap b))
 
-pub words-gap : (at : ℕ) (word : List ℕ) (b : ℕ) (text : List ℕ) → gap b ≡ true → wordsFrom at word (b ∷ text) ≡ ended at word (wordsFrom (at + length word + 1) [] text)
+pub words-gap : (at : ℕ) (word : List ℕ) (b : ℕ) (text : List ℕ) → gap b ≡ true
+    → wordsFrom at word (b ∷ text) ≡ ended at word (wordsFrom (at + length word + 1) [] text)
 unfolding wordsFrom
 words-gap at word b text e = rw e
 
@@ -58,20 +59,27 @@ gaps-passed (b ∷ text) at = by (gap b) refl (gaps-passed text)
     by false e more = simp (e, add-zero)
 
 letters-taken : (text : List ℕ) (at : ℕ) (word : List ℕ)
-    → wordsFrom at word text ≡ ended at (word ++ take (front letter text) text) (wordsFrom (at + length (word ++ take (front letter text) text)) [] (drop (front letter text) text))
+    → wordsFrom at word text
+    ≡ ended at (word ++ take (front letter text) text) (wordsFrom (at + length (word ++ take (front letter text) text)) [] (drop (front letter text) text))
 unfolding wordsFrom
 letters-taken [] at word = rw append-nil
 letters-taken (b ∷ text) at word = by (gap b) refl (letters-taken text at (word ++ (b ∷ [])))
   where
     by : (g : Bool) → gap b ≡ g
-        → wordsFrom at (word ++ (b ∷ [])) text ≡ ended at ((word ++ (b ∷ [])) ++ take (front letter text) text) (wordsFrom (at + length ((word ++ (b ∷ [])) ++ take (front letter text) text)) [] (drop (front letter text) text))
-        → wordsFrom at word (b ∷ text) ≡ ended at (word ++ take (front letter (b ∷ text)) (b ∷ text)) (wordsFrom (at + length (word ++ take (front letter (b ∷ text)) (b ∷ text))) [] (drop (front letter (b ∷ text)) (b ∷ text)))
+        → wordsFrom at (word ++ (b ∷ [])) text
+        ≡ ended at ((word ++ (b ∷ [])) ++ take (front letter text) text)
+        (wordsFrom (at + length ((word ++ (b ∷ [])) ++ take (front letter text) text)) [] (drop (front letter text) text))
+        → wordsFrom at word (b ∷ text)
+        ≡ ended at (word ++ take (front letter (b ∷ text)) (b ∷ text))
+        (wordsFrom (at + length (word ++ take (front letter (b ∷ text)) (b ∷ text))) [] (drop (front letter (b ∷ text)) (b ∷ text)))
     by true e more = simp (e, append-nil, add-zero)
     by false e more = simp e (simp append-assoc at more)
 
 -- a text that starts with a letter starts with a word
 pub one-word : (text : List ℕ) (at : ℕ) → 0 < length text → gap (getD text 0 0) ≡ false
-    → (wordsFrom at [] text ≡ record { at = at; found = foundOf (take (front letter text) text) } ∷ wordsFrom (at + front letter text) [] (drop (front letter text) text)) × (0 < front letter text)
+    → (wordsFrom at [] text
+    ≡ record { at = at; found = foundOf (take (front letter text) text) } ∷ wordsFrom (at + front letter text) [] (drop (front letter text) text))
+    × (0 < front letter text)
 one-word [] at h e = absurd (not-suc-le-zero h)
 one-word (b ∷ text) at h e =
     let n : front letter (b ∷ text) ≡ suc (front letter text) = rw e in
@@ -94,7 +102,9 @@ words-seam (x ∷ before) at word b text e =
     (λ (g : gap x ≡ true).
     let n : at + length word + 1 + 0 + length before + 1 ≡ at + length word + suc (length before) + 1 = omega arith in
     words-gap at word x (before ++ (b ∷ text)) g
-    ∙ ap (ended at word) (words-seam before (at + length word + 1) [] b text e ∙ ap (λ (k : ℕ). wordsFrom (at + length word + 1) [] before ++ wordsFrom k [] text) n)
+    ∙ ap (ended at word)
+    (words-seam before (at + length word + 1) [] b text e
+    ∙ ap (λ (k : ℕ). wordsFrom (at + length word + 1) [] before ++ wordsFrom k [] text) n)
     ∙ ended-append at word _ _
     ∙ ap (λ (w : List Word). w ++ wordsFrom (at + length word + suc (length before) + 1) [] text) (sym (words-gap at word x before g)))
     (λ (g : gap x ≡ false).

@@ -1,4 +1,4 @@
--- What the code's ten bytes hold.
+-- For the contracts of inner functions: what the code's ten bytes hold.
 -- Assumes nothing.
 use mathlib.Core.Path.{_≡_}
 use mathlib.Core.List.{List, _++_}

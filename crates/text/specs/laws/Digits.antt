@@ -36,26 +36,27 @@ module _ (s : Notation) where
     each-digit P h zero n = tt
     each-digit P h (suc k) n =
         let last : Each P (s .digit (n % s .base) ∷ []) = (h (n % s .base) (mod-lt n some), tt) in
-        digits-cases (Each P) k n (λ e. last) (λ e. each-append P (digitsOf s k (n / s .base)) (s .digit (n % s .base) ∷ []) (each-digit P h k (n / s .base)) last)
+        digits-cases (Each P) k n (λ e. last)
+        (λ e. each-append P (digitsOf s k (n / s .base)) (s .digit (n % s .base) ∷ []) (each-digit P h k (n / s .base)) last)
 
     -- where a digit's byte is read as the digit, and a number that is written as one digit is one
     module _
-      (read : ℕ → ℕ)
-      (reads : (d : ℕ) → d < s .base → read (s .digit d) ≡ d)
-      (whole : (n : ℕ) → s .alone n ≡ true → n < s .base)
+        (read : ℕ → ℕ)
+        (reads : (d : ℕ) → d < s .base → read (s .digit d) ≡ d)
+        (whole : (n : ℕ) → s .alone n ≡ true → n < s .base)
       where
-      last-value : (n : ℕ) → n / s .base * s .base + read (s .digit (n % s .base)) ≡ n
-      last-value n = ap (λ (d : ℕ). n / s .base * s .base + d) (reads (n % s .base) (mod-lt n some)) ∙ div-add-mod' n (s .base)
+        last-value : (n : ℕ) → n / s .base * s .base + read (s .digit (n % s .base)) ≡ n
+        last-value n = ap (λ (d : ℕ). n / s .base * s .base + d) (reads (n % s .base) (mod-lt n some)) ∙ div-add-mod' n (s .base)
 
-      -- the digits of n are read as n
-      pub digits-value : (k n : ℕ) → n < s .base ^ k → valueIn (s .base) read 0 (digitsOf s k n) ≡ n
-      unfolding digitsOf
-      digits-value zero n h = omega (arith, pow-zero (s .base))
-      digits-value (suc k) n h =
-          let less : n / s .base < s .base ^ k = div-lt-iff-lt-mul some .1 (rw pow-suc at h) in
-          digits-cases (λ t. valueIn (s .base) read 0 t ≡ n) k n
-          (λ e. rw (div-eq-of-lt (whole n e)) at (last-value n))
-          (λ e.
-          value-append (s .base) read 0 (digitsOf s k (n / s .base)) _
-          ∙ ap (λ (v : ℕ). v * s .base + read (s .digit (n % s .base))) (digits-value k (n / s .base) less)
-          ∙ last-value n)
+        -- the digits of n are read as n
+        pub digits-value : (k n : ℕ) → n < s .base ^ k → valueIn (s .base) read 0 (digitsOf s k n) ≡ n
+        unfolding digitsOf
+        digits-value zero n h = omega (arith, pow-zero (s .base))
+        digits-value (suc k) n h =
+            let less : n / s .base < s .base ^ k = div-lt-iff-lt-mul some .1 (rw pow-suc at h) in
+            digits-cases (λ t. valueIn (s .base) read 0 t ≡ n) k n
+            (λ e. rw (div-eq-of-lt (whole n e)) at (last-value n))
+            (λ e.
+            value-append (s .base) read 0 (digitsOf s k (n / s .base)) _
+            ∙ ap (λ (v : ℕ). v * s .base + read (s .digit (n % s .base))) (digits-value k (n / s .base) less)
+            ∙ last-value n)
