@@ -1,7 +1,7 @@
 -- Document 01, 'Text': '`name`, `label`, `macro_text` as in the source', and the action that a word is 'exactly' the name of.
 -- Assumes nothing.
 use mathlib.Core.Bool.{Bool, true, false, cond}
-use mathlib.Core.List.{List, [], _∷_, _++_}
+use mathlib.Core.List.{List, _∷_, _++_}
 use Prim.Native.Nat.{ℕ, zero, suc, _+_}
 use Rattle.text.specs.Bytes.{bytes}
 use Rattle.laws.specs.Lists.{same, elem}

@@ -10,8 +10,6 @@ use Rattle.action.specs.Names.{foundOf, isFound}
 use Rattle.action.specs.declared.names.Found.{Found}
 use Rattle.action.specs.declared.names.Found.the-variants.{Action, Nothing}
 use Rattle.rotation.specs.Gaps.{gap}
-use Rattle.rotation.specs.declared.words.Counted.{Counted}
-use Rattle.rotation.specs.declared.words.Counted.the-variants as C
 
 -- ---- the words of a text
 
@@ -67,6 +65,3 @@ unknownAt text = firstUnknown (wordsOf text)
 -- refusal 5, of a text before which `base` bytes of the input stand
 abbrev pub wordsTest : ℕ → List ℕ → Test
 wordsTest base text = record { passed = wordsKnown text; otherwise = UnknownWord (base + unknownAt text) }
-
-abbrev pub countedOf : List ℕ → Counted
-countedOf text = cond (wordsKnown text) (C.Words (length (actionsIn text))) (C.Unknown (unknownAt text))

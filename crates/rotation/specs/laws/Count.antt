@@ -12,7 +12,8 @@ use Rattle.refusal.specs.declared.Checked.the-variants.{Passed, Refused}
 use Rattle.refusal.specs.declared.Refusal.the-variants.{UnknownWord}
 use Rattle.rotation.specs.Gaps.{letter}
 use Rattle.rotation.specs.laws.First.{unknown-first}
-use Rattle.rotation.specs.Words.{actionsIn, wordsKnown, unknownAt, wordsTest, countedOf}
+use Rattle.rotation.specs.Words.{actionsIn, wordsKnown, unknownAt, wordsTest}
+use Rattle.rotation.specs.inner.Counted.{countedOf}
 use Rattle.rotation.specs.declared.words.Counted.{Counted}
 use Rattle.rotation.specs.declared.words.Counted.the-variants.{Words, Unknown}
 

@@ -9,7 +9,8 @@ use lib.ListN.{length, set, length-set}
 use Rattle.laws.specs.laws.Tests.{true-false}
 use Rattle.text.specs.Over.{over, Put}
 use Rattle.text.specs.laws.Over.{over-none, over-step}
-use Rattle.rotation.specs.Words.{Word, wordsOf, numbers, allFound, firstUnknown, actionsIn, wordsKnown, unknownAt, countedOf}
+use Rattle.rotation.specs.Words.{Word, wordsOf, numbers, allFound, firstUnknown, actionsIn, wordsKnown, unknownAt}
+use Rattle.rotation.specs.inner.Counted.{countedOf}
 use Rattle.rotation.specs.laws.Next.{wordsAt, Turn, Follows}
 use Rattle.rotation.specs.declared.words.Next.the-variants as N
 use Rattle.rotation.specs.declared.words.Counted.the-variants.{Words, Unknown}
