@@ -1,20 +1,21 @@
 -- What the tests of the numbers to build from have shown where they pass: what each factor rests on.
 -- Assumes nothing.
 use mathlib.Core.Path.{refl, sym}
+use Prim.Native.Nat.{ℕ, _≤_}
 use borrow.Author.Tests.{leb-true}
-use lib.Dec.{leb, lit≤}
+use lib.Dec.{leb}
 use Rattle.laws.specs.laws.Tests.{both}
 use Rattle.refusal.specs.laws.Judge.{shown}
 use Rattle.craft_context.specs.Limits.{divMost, Buildable}
-use Rattle.craft_context.specs.Factor.{progressPlus, qualityPlus}
+use Rattle.craft_context.specs.Factor.{qualityPlus}
 use Rattle.craft_context.specs.laws.Factor.{Bounded}
 use Rattle.craft_context.specs.declared.sheet.Player.{Player}
 use Rattle.craft_context.specs.declared.sheet.Recipe.{Recipe}
 
-module _ (player : Player) (recipe : Recipe) where
+module _ (player : Player) (recipe : Recipe) {plus : ℕ} (small : plus ≤ qualityPlus) where
   pub build-bounded : Buildable player recipe
-      → Bounded (player .craftsmanship) (recipe .«progress_div») progressPlus (recipe .«progress_mod»)
-      × Bounded (player .control) (recipe .«quality_div») qualityPlus (recipe .«quality_mod»)
+      → Bounded (player .craftsmanship) (recipe .«progress_div») plus (recipe .«progress_mod»)
+      × Bounded (player .control) (recipe .«quality_div») plus (recipe .«quality_mod»)
   build-bounded p =
       let s1 = shown _ _ (sym p) refl in
       let s2 = shown _ _ (s1 .1) refl in
@@ -28,14 +29,14 @@ module _ (player : Player) (recipe : Recipe) where
           strong = leb-true _ _ (s1 .0);
           divided = leb-true _ _ (d3 .0);
           divisorMost = leb-true _ _ (d3 .1);
-          raised = lit≤ tt;
+          raised = small;
           modified = leb-true _ _ (s4 .0);
         },
         record {
           strong = leb-true _ _ (s2 .0);
           divided = leb-true _ _ (d5 .0);
           divisorMost = leb-true _ _ (d5 .1);
-          raised = lit≤ tt;
+          raised = small;
           modified = leb-true _ _ (s6 .0);
         },
       )

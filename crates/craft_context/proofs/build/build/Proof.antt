@@ -1,6 +1,7 @@
 -- `craft_context::build::build` meets its contract.
 -- Assumes nothing.
 use mathlib.Core.Path.{_≡_}
+use lib.Dec.{lit≤}
 use mir.Syntax.{w8}
 use mir.Val.{toZ, ofZ}
 use mir.ValLaws.{toZ-ofZ}
@@ -18,8 +19,8 @@ unfolding builtOf
 build-spec =
     tie.close
     (tie.spec
-    (λ c κs. let s = c .before .before in build-bounded (s .args .player) (s .args .recipe) (s .pre) .0)
-    (λ c κs. let s = c .before .before .before in build-bounded (s .args .player) (s .args .recipe) (s .pre) .1)
+    (λ c κs. let s = c .before .before in build-bounded (s .args .player) (s .args .recipe) (lit≤ tt) (s .pre) .0)
+    (λ c κs. let s = c .before .before .before in build-bounded (s .args .player) (s .args .recipe) (lit≤ tt) (s .pre) .1)
     (λ c κs. tt)
     (λ c κs. tt)
     (λ c κs. tt)
