@@ -1,4 +1,4 @@
--- What each public entry over sets answers, for any number: its tests in the order of the refusals, then its answer.
+-- What each public entry over sets answers, for any number: its tests in the order of document 01's "What comes back on refusal", then its answer.
 -- Assumes nothing.
 use mathlib.Core.Path.{refl}
 use mathlib.Core.List.{List, [], _∷_}
@@ -97,4 +97,5 @@ abbrev pub HighestIs : ℕ → Highest → Type 0
 HighestIs s r = Says highest (setTest s ∷ []) (highestOf H.Is H.Empty s) r
 
 abbrev pub Members : ℕ → List ℕ → Listed → List ℕ → Type 0
-Members s out r after = Writes list (setTest s ∷ roomTest (length out) (sizeOf s) ∷ []) (L.Count (sizeOf s)) out (over out 0 (membersOf s)) r after
+Members s out r after =
+    Writes list (setTest s ∷ roomTest (length out) (sizeOf s) ∷ []) (L.Count (sizeOf s)) out (over out 0 (membersOf s)) r after

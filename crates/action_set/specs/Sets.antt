@@ -1,10 +1,11 @@
--- A set of actions is a number below 2 ^ 31, in which bit n stands for action n.
+-- Document 01, "Action table": a set is 31 bits, bit n for action n; its size and its highest member come from counts of its bits, and an
+-- empty set has no highest. "Limits": bit 31 of every set is clear.
 -- Assumes nothing.
-use mathlib.Core.Bool.{Bool, cond, not, _&&_, _||_}
+use mathlib.Core.Bool.{Bool, cond}
 use mathlib.Core.List.{List, [], _∷_}
 use Prim.Native.Nat.{ℕ, zero, suc, _^_, _<_}
-use lib.Dec.{eqb, ltb}
-use Rattle.laws.specs.Bits.{has, collect, count, highestBelow}
+use lib.Dec.{ltb}
+use Rattle.laws.specs.Bits.{has, collect, withBit, withoutBit, keepBits, count, highestBelow}
 use Rattle.refusal.specs.Judge.{Test}
 use Rattle.refusal.specs.declared.Refusal.the-variants.{OutsideLimits}
 use Rattle.action.specs.Known.{actions, actionTest}
@@ -24,15 +25,15 @@ memberTests s n = setTest s ∷ actionTest n ∷ []
 abbrev pub setOf : (ℕ → Bool) → ℕ
 setOf p = collect actions p
 
+-- a set with n, without n, and its members for which f holds
 abbrev pub withOf : ℕ → ℕ → ℕ
-withOf s n = setOf (λ m. has s m || eqb m n)
+withOf s n = withBit actions s n
 
 abbrev pub withoutOf : ℕ → ℕ → ℕ
-withoutOf s n = setOf (λ m. has s m && not (eqb m n))
+withoutOf s n = withoutBit actions s n
 
--- the members for which f holds
 abbrev pub keepOf : (ℕ → Bool) → ℕ → ℕ
-keepOf f s = setOf (λ m. has s m && f m)
+keepOf f s = keepBits actions f s
 
 abbrev pub sizeOf : ℕ → ℕ
 sizeOf s = count actions (has s)

@@ -1,13 +1,14 @@
--- The context that is built from player, recipe and options.
+-- Document 01, "Context" and the second sentence of its "Limits": the context that is built from player, recipe and options, and its entry.
 -- Assumes nothing.
 use mathlib.Core.Path.{refl}
+use mathlib.Core.Bool.{Bool}
 use mathlib.Core.List.{_++_}
-use Prim.Native.Nat.{ℕ, _≤_}
+use Prim.Native.Nat.{ℕ}
 use lib.Dec.{leb}
 use Rattle.refusal.specs.declared.Report.{Report}
 use Rattle.refusal.specs.Report.{reportOf, success}
 use Rattle.refusal.specs.Judge.{Kind, Says}
-use Rattle.craft_context.specs.Limits.{statMost, divMost, modMost, buildTests, contextTests}
+use Rattle.craft_context.specs.Limits.{buildTests, contextTests}
 use Rattle.craft_context.specs.Factor.{factorOf, progressPlus, qualityPlus}
 use Rattle.craft_context.specs.Pool.{poolOf}
 use Rattle.craft_context.specs.declared.context.CraftContext.{CraftContext}
@@ -19,18 +20,24 @@ use Rattle.craft_context.specs.declared.sheet.Given.the-variants as G
 use Rattle.craft_context.specs.declared.build.Built.{Built}
 use Rattle.craft_context.specs.declared.build.Built.the-variants as B
 
+-- an option's number, or another where it gives none
 abbrev pub givenOr : Given → ℕ → ℕ
 givenOr (G.Value n) other = n
 givenOr G.Nothing other = other
 
--- the modifier counts where the player's level is at most the recipe's
+-- the player's level is at most the recipe's: then the modifier counts
+abbrev pub atMost : Player → Recipe → Bool
+atMost player recipe = leb (player .«job_level») (recipe .«job_level»)
+
 unfoldable pub builtOf : Player → Recipe → CraftOptions → CraftContext
 builtOf player recipe options =
     record {
       «player_job_level» = player .«job_level»;
       «recipe_job_level» = recipe .«job_level»;
-      «base_progress_factor» = factorOf (player .craftsmanship) (recipe .«progress_div») progressPlus (recipe .«progress_mod») (leb (player .«job_level») (recipe .«job_level»));
-      «base_quality_factor» = factorOf (player .control) (recipe .«quality_div») qualityPlus (recipe .«quality_mod») (leb (player .«job_level») (recipe .«job_level»));
+      «base_progress_factor» =
+          factorOf (player .craftsmanship) (recipe .«progress_div») progressPlus (recipe .«progress_mod») (atMost player recipe);
+      «base_quality_factor» =
+          factorOf (player .control) (recipe .«quality_div») qualityPlus (recipe .«quality_mod») (atMost player recipe);
       «step_max» = options .«max_steps»;
       «progress_target» = recipe .progress;
       «starting_quality» = givenOr (options .«starting_quality») 0;
@@ -43,17 +50,6 @@ builtOf player recipe options =
       «use_manipulation» = options .«use_manipulation»;
       «use_delineation» = options .«use_delineation»;
     }
-
--- what passed the tests of the numbers to build from
-pub record Buildable (player : Player) (recipe : Recipe) : Type 0 where
-  pub craftsmanship : player .craftsmanship ≤ statMost
-  pub control : player .control ≤ statMost
-  pub progress : 1 ≤ recipe .«progress_div»
-  pub progressMost : recipe .«progress_div» ≤ divMost
-  pub progressMod : recipe .«progress_mod» ≤ modMost
-  pub quality : 1 ≤ recipe .«quality_div»
-  pub qualityMost : recipe .«quality_div» ≤ divMost
-  pub qualityMod : recipe .«quality_mod» ≤ modMost
 
 -- ---- the entry
 

@@ -1,4 +1,4 @@
--- The limits of document 01, field by field in order: of a context, and of what it is built from.
+-- Document 01, "Limits", its first two sentences: of a context, and of what it is built from, field by field in order. Outside is refusal 1.
 -- Assumes nothing.
 use mathlib.Core.Path.{_≡_}
 use mathlib.Core.Bool.{Bool, true, false, _&&_}
@@ -6,8 +6,9 @@ use mathlib.Core.List.{List, [], _∷_}
 use Prim.Native.Nat.{ℕ, _≤_}
 use lib.Dec.{leb}
 use lib.IntN.{ℤ, pos, negsuc}
-use Rattle.refusal.specs.Judge.{Test, Checks}
+use Rattle.refusal.specs.Judge.{Test, checksOf, Checks}
 use Rattle.refusal.specs.declared.Checked.{Checked}
+use Rattle.refusal.specs.declared.Checked.the-variants.{Passed}
 use Rattle.refusal.specs.declared.Refusal.the-variants.{OutsideLimits}
 use Rattle.action.specs.Limits.{factorMost, targetMost}
 use Rattle.action_set.specs.Sets.{SetIn, setTest}
@@ -51,6 +52,10 @@ buildTests player recipe =
     limitTest (leb (recipe .«quality_mod») modMost) ∷
     []
 
+-- each of them passes
+abbrev pub Buildable : Player → Recipe → Type 0
+Buildable player recipe = checksOf (buildTests player recipe) ≡ Passed
+
 -- levels, steps and flags have no limit
 abbrev pub contextTests : CraftContext → List Test
 contextTests c =
@@ -67,7 +72,7 @@ contextTests c =
 abbrev pub ChecksContext : CraftContext → Checked → Type 0
 ChecksContext c r = Checks (contextTests c) r
 
--- what passed the tests of a context
+-- each of them passes, as facts: `context-in` and `context-passes` (specs/laws/Limits.antt) lead from one to the other
 pub record ContextIn (c : CraftContext) : Type 0 where
   pub baseProgress : c .«base_progress_factor» ≤ factorMost
   pub baseQuality : c .«base_quality_factor» ≤ factorMost

@@ -1,4 +1,5 @@
--- Which actions a player has for a recipe.
+-- Document 01, "Context": "The pool has actions with level and cp enough (no cost counts 0); TrainedEye also needs player level minus
+-- recipe level ≥ 10. A Traited action present removes its untraited twin."
 -- Assumes nothing.
 use mathlib.Core.Bool.{Bool, cond, not, _&&_, _||_}
 use Prim.Native.Nat.{ℕ, _-_}
@@ -17,13 +18,16 @@ ahead player recipe = player .«job_level» - recipe .«job_level»
 -- level and points are enough, and TrainedEye needs a player ten levels ahead
 abbrev pub able : Player → Recipe → ℕ → Bool
 able player recipe n =
-    leb (attributesOf n .level) (player .«job_level») && (affordable (player .cp) (attributesOf n .«cp_cost») && (not (eqb n A.TrainedEye) || leb 10 (ahead player recipe)))
+    leb (attributesOf n .level) (player .«job_level»)
+    && (affordable (player .cp) (attributesOf n .«cp_cost») && (not (eqb n A.TrainedEye) || leb 10 (ahead player recipe)))
 
 -- the Traited action that takes an action's place, or the action itself
 abbrev pub twinOf : ℕ → ℕ
 twinOf n =
     cond (eqb n A.BasicSynthesis) A.BasicSynthesisTraited
-    (cond (eqb n A.CarefulSynthesis) A.CarefulSynthesisTraited (cond (eqb n A.Groundwork) A.GroundworkTraited (cond (eqb n A.DelicateSynthesis) A.DelicateSynthesisTraited n)))
+    (cond (eqb n A.CarefulSynthesis) A.CarefulSynthesisTraited
+    (cond (eqb n A.Groundwork) A.GroundworkTraited
+    (cond (eqb n A.DelicateSynthesis) A.DelicateSynthesisTraited n)))
 
 -- able, and not replaced by a Traited twin
 abbrev pub inPool : Player → Recipe → ℕ → Bool

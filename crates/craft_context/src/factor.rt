@@ -1,9 +1,10 @@
 // The base factors of progress and quality, worked out in f32 as craft_context.rs does.
 ghost use mathlib.Core.Path.{_≡_};
 ghost use Prim.Native.Nat.{_≤_};
-ghost use Rattle.craft_context.specs.Factor.{baseOf, scaleOf, scaledOf, factorOf, Bounded};
-ghost use Rattle.craft_context.specs.Limits.{statMost};
 ghost use Rattle.action.specs.Limits.{factorMost};
+ghost use Rattle.craft_context.specs.Limits.{statMost};
+ghost use Rattle.craft_context.specs.Factor.{baseOf, scaledOf, factorOf};
+ghost use Rattle.craft_context.specs.laws.Factor.{Bounded};
 use std::num;
 
 // stat * 10 over div, and plus: 2 for progress, 35 for quality.
@@ -15,20 +16,14 @@ fn base(stat: u32, div: u32, plus: u32) -> f32
         + num::nearest_u32_to_f32(plus)
 }
 
-// The recipe's modifier, in hundredths.
-fn scale(modifier: u32) -> f32
-    ensures { λ r. ⌜ r ≡ scaleOf modifier ⌝ }
-{
-    num::nearest_u32_to_f32(modifier) / 100.0
-}
-
+// Times the recipe's modifier, in hundredths.
 fn factor(stat: u32, div: u32, plus: u32, modifier: u32, scaled: bool) -> f32
     requires { ⌜ stat ≤ statMost ⌝ }
     ensures { λ r. ⌜ r ≡ scaledOf stat div plus modifier scaled ⌝ }
 {
     let whole = base(stat, div, plus);
     if scaled {
-        return whole * scale(modifier);
+        return whole * (num::nearest_u32_to_f32(modifier) / 100.0);
     }
     whole
 }

@@ -4,14 +4,14 @@ use mathlib.Core.Path.{_≡_, sym}
 use mathlib.Core.Bool.{true, false}
 use Prim.Native.Nat.{ℕ, _≤_, _<_}
 use native.Mathlib.Omega.{arith}
-use borrow.Author.Tests.{le-leb, lt-leb, leb-true, ltb-true}
+use borrow.Author.Tests.{le-leb, lt-leb, lt-ltb, leb-true, ltb-true}
 use lib.Dec.{leb}
 use lib.IntN.{ℤ, pos, negsuc}
 use Rattle.laws.specs.laws.Tests.{true-false, both}
 use Rattle.laws.specs.laws.Raise.{raise}
 use Rattle.refusal.specs.declared.Checked.{Checked}
 use Rattle.refusal.specs.declared.Checked.the-variants.{Passed}
-use Rattle.refusal.specs.Judge.{checksOf}
+use Rattle.refusal.specs.Judge.{judged, checksOf}
 use Rattle.refusal.specs.laws.Judge.{shown}
 use Rattle.craft_context.specs.Limits.{durable, durabilityMost, contextTests, ContextIn}
 use Rattle.craft_context.specs.declared.context.CraftContext.{CraftContext}
@@ -25,9 +25,12 @@ module _ {z : ℤ} {n : ℕ} (e : z ≡ pos n) where
 
 -- 1..=97, raised
 pub durable-raised : (z : ℤ) → durable z ≡ true → (raise (pos 0) < raise z) × (raise z ≤ raise (pos durabilityMost))
-durable-raised (pos n) e = let h = both (leb 1 n) (leb n durabilityMost) e in (omega (arith, leb-true 1 n (h .0)), omega (arith, leb-true n durabilityMost (h .1)))
+durable-raised (pos n) e =
+    let h = both (leb 1 n) (leb n durabilityMost) e in
+    (omega (arith, leb-true 1 n (h .0)), omega (arith, leb-true n durabilityMost (h .1)))
 durable-raised (negsuc k) e = absurd (true-false (sym e))
 
+-- a context is inside its limits exactly where each of its tests passes
 pub context-in : (c : CraftContext) {checked : Checked} → checked ≡ checksOf (contextTests c) → checked ≡ Passed → ContextIn c
 context-in c e p =
     let s1 = shown _ _ e p in
@@ -48,3 +51,17 @@ context-in c e p =
       cpMax = leb-true _ _ (s7 .0);
       pool = ltb-true _ _ (s8 .0);
     }
+
+pub context-passes : (c : CraftContext) → ContextIn c → checksOf (contextTests c) ≡ Passed
+unfolding judged
+context-passes c i =
+    simp (
+      le-leb _ _ (i .baseProgress),
+      le-leb _ _ (i .baseQuality),
+      le-leb _ _ (i .progressTarget),
+      le-leb _ _ (i .startingQuality),
+      le-leb _ _ (i .qualityTarget),
+      i .durability,
+      le-leb _ _ (i .cpMax),
+      lt-ltb _ _ (i .pool),
+    )

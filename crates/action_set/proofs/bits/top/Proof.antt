@@ -14,6 +14,6 @@ pub top-spec : {M : Type 1} → statement M
 top-spec =
     tie.close
     (tie.spec
-    (λ c. top-place (c .args .s) (c .pre .0) (wide c) .0)
+    (λ c. omega (arith, top-place (c .args .s) (c .pre .0) (wide c) .0))
     (λ c. search needs)
     (λ c. top-place (c .args .s) (c .pre .0) (wide c) .1))

@@ -1,11 +1,12 @@
 -- `craft_context::build::build` meets its contract.
 -- Assumes nothing.
 use mathlib.Core.Path.{_≡_}
-use borrow.Author.Needs.{needs}
+use lib.Dec.{lit≤}
 use mir.Syntax.{w8}
 use mir.Val.{toZ, ofZ}
 use mir.ValLaws.{toZ-ofZ}
 use Rattle.craft_context.specs.Build.{builtOf}
+use Rattle.craft_context.specs.laws.Build.{build-bounded}
 use Rattle.craft_context.proofs.build.build.Statement.{statement}
 use Rattle.craft_context.proofs.build.build.Tie as tie
 
@@ -18,8 +19,8 @@ unfolding builtOf
 build-spec =
     tie.close
     (tie.spec
-    (λ c κs. search needs)
-    (λ c κs. search needs)
+    (λ c κs. let s = c .before .before in build-bounded (s .args .player) (s .args .recipe) (lit≤ tt) (s .pre) .0)
+    (λ c κs. let s = c .before .before .before in build-bounded (s .args .player) (s .args .recipe) (lit≤ tt) (s .pre) .1)
     (λ c κs. tt)
     (λ c κs. tt)
     (λ c κs. tt)

@@ -1,13 +1,12 @@
 -- `craft_context::context::CraftContext::new` meets its contract.
 -- Assumes nothing.
-use mathlib.Core.Path.{_≡_, refl, ap, _∙_}
+use mathlib.Core.Path.{_≡_, refl, sym, ap, _∙_}
 use mathlib.Core.List.{List, []}
 use borrow.Author.Needs.{needs}
 use Rattle.refusal.specs.Judge.{Test, checksOf}
 use Rattle.refusal.specs.laws.Judge.{stopped-by, onward-by, answered}
 use Rattle.craft_context.specs.Limits.{buildTests, contextTests}
 use Rattle.craft_context.specs.Build.{builtOf}
-use Rattle.craft_context.specs.laws.Build.{buildable}
 use Rattle.craft_context.specs.declared.context.CraftContext.{CraftContext}
 use Rattle.craft_context.specs.declared.build.Built.the-variants.{Context}
 use Rattle.craft_context.proofs.context.CraftContext.new.Statement.{statement}
@@ -33,7 +32,7 @@ new-spec =
     (λ c. search needs)
     (λ c. stopped-by (first (c .before .before .before .before)) (later (c .before .before .before .before)) (c .before .before .before .check-build .ensures) (c .before .inputs .given .1))
     (λ c. search needs)
-    (λ c κs. buildable _ _ (c .before .before .check-build .ensures) (c .enum-told .given .1))
+    (λ c κs. sym (c .before .before .check-build .ensures) ∙ c .enum-told .given .1)
     (λ c κs. tt)
     (λ c. search needs)
     (λ c.
