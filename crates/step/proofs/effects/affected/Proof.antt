@@ -2,12 +2,12 @@
 -- Assumes nothing.
 use Rattle.craft_state.specs.Start.{renewedOf}
 use Rattle.craft_state.specs.laws.Inside.{room-read}
-use Rattle.step.specs.Step.{affectedOf, buffedOf}
+use Rattle.step.specs.Step.{affectedOf}
 use Rattle.step.proofs.effects.affected.Statement.{statement}
 use Rattle.step.proofs.effects.affected.Tie as tie
 
 pub affected-spec : {M : Type 1} → statement M
-unfolding affectedOf buffedOf renewedOf
+unfolding affectedOf renewedOf
 affected-spec =
     tie.close
     (tie.spec
