@@ -1,4 +1,4 @@
--- Where a craft starts, and the entry that answers it.
+-- The state in which a craft starts, as craft_state.rs makes it (document 01's P1), and the entry that answers it.
 -- Assumes nothing.
 use mathlib.Core.Path.{refl}
 use Rattle.refusal.specs.declared.Report.{Report}

@@ -1,4 +1,4 @@
--- One action, in document 01's order 1 to 9; 2, 3, 4 and 6 change nothing where the action's row lacks the attribute.
+-- Document 01's "One action", in its order 1 to 9; 2, 3, 4 and 6 change nothing where the action's row lacks the attribute.
 -- Assumes nothing.
 use mathlib.Core.Bool.{cond}
 use Prim.Native.Nat.{ℕ}
