@@ -1,23 +1,23 @@
--- A context and a state inside the limits, as facts: what the ranges of refusals 1 and 2 have shown.
+-- Document 01's "Limits", of a context and a state, as facts: what the tests of refusals 1 and 2 have shown. Inner functions ask for them.
 -- Assumes nothing.
 use mathlib.Core.Path.{_≡_}
 use mathlib.Core.Bool.{true}
-use Prim.Native.Nat.{_≤_, _<_}
-use lib.IntN.{ℤ, pos}
-use Rattle.laws.specs.laws.Raise.{raise}
+use Prim.Native.Nat.{_≤_}
+use lib.IntN.{ℤ}
+use lib.Signed.{leZ}
 use Rattle.action.specs.Limits.{amountMost, quietMost}
 use Rattle.craft_context.specs.declared.context.CraftContext.{CraftContext}
-use Rattle.craft_context.specs.Limits.{durabilityMost, ContextIn}
-use Rattle.craft_state.specs.Limits.{stepLeast, durabilityLeast, wasteNotMost, wasteNotIIMost, manipulationMost, greatStridesMost, innovationMost, venerationMost, muscleMemoryMost, lastKnown, comboAgrees}
+use Rattle.craft_context.specs.Limits.{durable, ContextIn}
+use Rattle.craft_state.specs.Limits.{stepLeast, durabilityLeast, lastKnown, comboAgrees}
+use Rattle.craft_state.specs.Limits.{wasteNotMost, wasteNotIIMost, manipulationMost, greatStridesMost, innovationMost, venerationMost, muscleMemoryMost}
 use Rattle.craft_state.specs.declared.buffs.Buffs.{Buffs}
 use Rattle.craft_state.specs.declared.state.CraftState.{CraftState}
 
--- from -19 to the most, which is from 1 to 97; each is raised to a natural number, since omega reads no sign
+-- from -19 to the most, which is from 1 to 97
 pub record DurabilityIn (d most : ℤ) : Type 0 where
-  pub from : raise durabilityLeast ≤ raise d
-  pub to : raise d ≤ raise most
-  pub above : raise (pos 0) < raise most
-  pub top : raise most ≤ raise (pos durabilityMost)
+  pub from : leZ durabilityLeast d ≡ true
+  pub to : leZ d most ≡ true
+  pub top : durable most ≡ true
 
 pub record BuffsIn (b : Buffs) : Type 0 where
   pub quiet : b .«inner_quiet» ≤ quietMost
@@ -33,7 +33,7 @@ pub record StateIn (context : CraftContext) (state : CraftState) : Type 0 where
   pub step : stepLeast ≤ state .step
   pub progress : state .progress ≤ amountMost
   pub quality : state .quality ≤ amountMost
-  pub room : DurabilityIn (state .durability) (context .«durability_max»)
+  pub durability : DurabilityIn (state .durability) (context .«durability_max»)
   pub cp : state .cp ≤ context .«cp_max»
   pub combo : comboAgrees (state .«previous_combo_action») (state .action) ≡ true
   pub buffs : BuffsIn (state .buffs)

@@ -1,4 +1,5 @@
 pub mod Limits
+pub mod Setters
 pub mod Start
 pub mod Line
 pub mod Inside

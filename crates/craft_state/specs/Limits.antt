@@ -1,4 +1,4 @@
--- The ranges of document 01 for a state, field by field in order, and refusal 2.
+-- Document 01's "Limits", of a state, field by field in order, and refusal 2.
 -- Assumes nothing.
 use mathlib.Core.Bool.{Bool, true, false, _&&_}
 use mathlib.Core.List.{List, [], _∷_, _++_}

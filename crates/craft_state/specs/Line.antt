@@ -1,4 +1,4 @@
--- The line of a state, as the Rust's Display writes it: each amount and its most, right-aligned in fields that grow.
+-- Document 01's "Text": the Display line of a state, as the Rust writes it. Each amount and its most, right-aligned in fields that grow.
 -- Assumes nothing.
 use mathlib.Core.List.{List, _++_}
 use Prim.Native.Nat.{ℕ}

@@ -1,4 +1,4 @@
--- Where a craft starts, and the entry that answers it.
+-- The state in which a craft starts, as craft_state.rs makes it (document 01's P1), and the entry that answers it.
 -- Assumes nothing.
 use mathlib.Core.Path.{refl}
 use Rattle.refusal.specs.declared.Report.{Report}
@@ -9,6 +9,7 @@ use Rattle.action.specs.declared.price.Combo.the-variants as C
 use Rattle.craft_context.specs.declared.context.CraftContext.{CraftContext}
 use Rattle.craft_context.specs.Limits.{contextTests}
 use Rattle.craft_state.specs.Limits.{stepLeast}
+use Rattle.craft_state.specs.Setters.{withCombo, withPerfection, withAction}
 use Rattle.craft_state.specs.declared.buffs.Buffs.{Buffs}
 use Rattle.craft_state.specs.declared.state.CraftState.{CraftState}
 use Rattle.craft_state.specs.declared.state.Perfection.{Perfection}
@@ -48,19 +49,7 @@ startOf context =
 
 -- a state with its enums renewed
 unfoldable pub renewedOf : CraftState → Combo → Perfection → Last → CraftState
-renewedOf state combo perfection last =
-    record {
-      step = state .step;
-      progress = state .progress;
-      quality = state .quality;
-      durability = state .durability;
-      cp = state .cp;
-      «previous_combo_action» = combo;
-      «quick_innovation_available» = state .«quick_innovation_available»;
-      «trained_perfection_active» = perfection;
-      buffs = state .buffs;
-      action = last;
-    }
+renewedOf state combo perfection last = withCombo combo (withPerfection perfection (withAction last state))
 
 -- ---- the entry
 

@@ -1,12 +1,14 @@
--- What one action asks: a context and a state inside the limits, and what makes the action legal there.
+-- What the inner functions of one action ask: a context and a state inside the limits, and what makes the action legal there.
 -- Assumes nothing.
+use mathlib.Core.Path.{_≡_}
+use mathlib.Core.Bool.{false}
 use Prim.Native.Nat.{ℕ, _≤_, _<_}
 use lib.IntN.{pos}
-use Rattle.laws.specs.laws.Raise.{raise}
+use lib.Signed.{leZ}
 use Rattle.action.specs.Known.{actions}
 use Rattle.action.specs.Limits.{amountMost, factorMost, targetMost, progressMost, quietMost}
 use Rattle.action.specs.Amount.{AtMost}
-use Rattle.action.specs.Price.{priceOf}
+use Rattle.action.specs.Price.{chargeOf}
 use Rattle.action.specs.declared.table.Amount.{Amount}
 use Rattle.action.specs.declared.table.Amount.the-variants.{Of, Nothing}
 use Rattle.action.specs.declared.table.Attributes.{Attributes}
@@ -22,8 +24,7 @@ Where Nothing holds = Unit {0}
 
 -- the price charged is at most the points
 abbrev pub Payable : ℕ → Combo → ℕ → Amount → Type 0
-Payable cp combo n (Of cost) = priceOf n combo cost ≤ cp
-Payable cp combo n Nothing = Unit {0}
+Payable cp combo n cost = chargeOf n combo cost ≤ cp
 
 -- what a legal action rests on, by its row
 pub record Playable (c : CraftContext) (s : CraftState) (n : ℕ) (row : Attributes) : Type 0 where
@@ -31,7 +32,7 @@ pub record Playable (c : CraftContext) (s : CraftState) (n : ℕ) (row : Attribu
   pub known : n < actions
   pub below : s .progress < c .«progress_target»
   pub early : s .step < c .«step_max»
-  pub alive : raise (pos 0) < raise (s .durability)
+  pub alive : leZ (s .durability) (pos 0) ≡ false
   pub quality : Where (row .«quality_efficiency») (s .quality < c .«quality_target»)
   pub payable : Payable (s .cp) (s .«previous_combo_action») n (row .«cp_cost»)
 

@@ -1,4 +1,4 @@
--- What one action does to each field, in document 01's order.
+-- Document 01's "One action": what each of 1 to 9 does to a field.
 -- Assumes nothing.
 use mathlib.Core.Bool.{Bool, true, false, cond, not, _&&_, _||_}
 use Prim.Native.Nat.{ℕ, _+_, _-_, min}
@@ -7,7 +7,7 @@ use lib.IntN.{ℤ, pos, _-ℤ_}
 use Rattle.action.specs.Actions as A
 use Rattle.action.specs.Limits.{quietMost}
 use Rattle.action.specs.Gain.{progressGainOf, qualityGainOf}
-use Rattle.action.specs.Price.{priceOf}
+use Rattle.action.specs.Price.{chargeOf}
 use Rattle.action.specs.Wear.{wearOf}
 use Rattle.action.specs.declared.table.Amount.{Amount}
 use Rattle.action.specs.declared.table.Amount.the-variants.{Of, Nothing}
@@ -41,7 +41,8 @@ usedUp Nothing buff = buff
 
 abbrev pub qualityGain : CraftContext → CraftState → ℕ → ℕ → ℕ
 qualityGain c s n efficiency =
-    qualityGainOf n (c .«quality_target» - s .quality) (c .«base_quality_factor») efficiency (s .buffs .«inner_quiet») (s .buffs .innovation) (s .buffs .«great_strides»)
+    let missing = c .«quality_target» - s .quality in
+    qualityGainOf n missing (c .«base_quality_factor») efficiency (s .buffs .«inner_quiet») (s .buffs .innovation) (s .buffs .«great_strides»)
 
 abbrev pub qualityAfter : CraftContext → CraftState → ℕ → Amount → ℕ
 qualityAfter c s n (Of efficiency) = s .quality + qualityGain c s n efficiency
@@ -98,8 +99,7 @@ perfectionAfter perfection Nothing = perfection
 -- ---- 6: points
 
 abbrev pub cpAfter : ℕ → Combo → ℕ → Amount → ℕ
-cpAfter cp combo n (Of cost) = cp - priceOf n combo cost
-cpAfter cp combo n Nothing = cp
+cpAfter cp combo n cost = cp - chargeOf n combo cost
 
 -- ---- 7: the action if BasicTouch or Observe, or StandardTouch or RefinedTouch on combo BasicTouch; else none
 

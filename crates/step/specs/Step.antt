@@ -1,4 +1,4 @@
--- One action, in document 01's order 1 to 9; 2, 3, 4 and 6 change nothing where the action's row lacks the attribute.
+-- Document 01's "One action", in its order 1 to 9; 2, 3, 4 and 6 change nothing where the action's row lacks the attribute.
 -- Assumes nothing.
 use mathlib.Core.Bool.{cond}
 use Prim.Native.Nat.{ℕ}
@@ -8,180 +8,63 @@ use Rattle.action.specs.Table.{attributesOf}
 use Rattle.action.specs.declared.table.Amount.{Amount}
 use Rattle.action.specs.declared.table.Attributes.{Attributes}
 use Rattle.craft_context.specs.declared.context.CraftContext.{CraftContext}
-use Rattle.craft_state.specs.declared.buffs.Buffs.{Buffs}
 use Rattle.craft_state.specs.declared.state.CraftState.{CraftState}
 use Rattle.craft_state.specs.declared.state.Last.the-variants as L
+use Rattle.craft_state.specs.Setters.{withStep, withProgress, withQuality, withDurability, withCp, withCombo, withQuick, withPerfection, withBuffs, withAction}
+use Rattle.craft_state.specs.Setters.{withInnerQuiet, withGreatStrides, withMuscleMemory}
 use Rattle.step.specs.Durability.{refreshedTo}
-use Rattle.step.specs.Parts.{stepAfter, progressAfter, usedUp, qualityAfter, quietAfter, durabilityAfter, perfectionAfter, cpAfter, comboAfter, tickedOf, effectOf, mendAfter, perfectedBy, quickAfter}
+use Rattle.step.specs.Parts.{stepAfter, progressAfter, usedUp, qualityAfter, quietAfter, durabilityAfter, perfectionAfter, cpAfter, comboAfter}
+use Rattle.step.specs.Parts.{tickedOf, effectOf, mendAfter, perfectedBy, quickAfter}
 
 -- 1
 unfoldable pub begunOf : CraftState → ℕ → CraftState
-begunOf s n =
-    record {
-      step = stepAfter n (s .step);
-      progress = s .progress;
-      quality = s .quality;
-      durability = s .durability;
-      cp = s .cp;
-      «previous_combo_action» = s .«previous_combo_action»;
-      «quick_innovation_available» = s .«quick_innovation_available»;
-      «trained_perfection_active» = s .«trained_perfection_active»;
-      buffs = s .buffs;
-      action = L.Was n;
-    }
+begunOf s n = withStep (stepAfter n (s .step)) (withAction (L.Was n) s)
 
 -- 2
 unfoldable pub progressedOf : CraftContext → CraftState → Amount → CraftState
 progressedOf c s efficiency =
-    record {
-      step = s .step;
-      progress = progressAfter c s efficiency;
-      quality = s .quality;
-      durability = s .durability;
-      cp = s .cp;
-      «previous_combo_action» = s .«previous_combo_action»;
-      «quick_innovation_available» = s .«quick_innovation_available»;
-      «trained_perfection_active» = s .«trained_perfection_active»;
-      buffs = record {
-        «inner_quiet» = s .buffs .«inner_quiet»;
-        «waste_not» = s .buffs .«waste_not»;
-        «waste_not_ii» = s .buffs .«waste_not_ii»;
-        manipulation = s .buffs .manipulation;
-        «great_strides» = s .buffs .«great_strides»;
-        innovation = s .buffs .innovation;
-        veneration = s .buffs .veneration;
-        «muscle_memory» = usedUp efficiency (s .buffs .«muscle_memory»);
-      };
-      action = s .action;
-    }
+    withProgress (progressAfter c s efficiency)
+    (withBuffs (withMuscleMemory (usedUp efficiency (s .buffs .«muscle_memory»)) (s .buffs)) s)
 
 -- 3
 unfoldable pub improvedOf : CraftContext → CraftState → ℕ → Amount → CraftState
 improvedOf c s n efficiency =
-    record {
-      step = s .step;
-      progress = s .progress;
-      quality = qualityAfter c s n efficiency;
-      durability = s .durability;
-      cp = s .cp;
-      «previous_combo_action» = s .«previous_combo_action»;
-      «quick_innovation_available» = s .«quick_innovation_available»;
-      «trained_perfection_active» = s .«trained_perfection_active»;
-      buffs = record {
-        «inner_quiet» = quietAfter c s n efficiency;
-        «waste_not» = s .buffs .«waste_not»;
-        «waste_not_ii» = s .buffs .«waste_not_ii»;
-        manipulation = s .buffs .manipulation;
-        «great_strides» = usedUp efficiency (s .buffs .«great_strides»);
-        innovation = s .buffs .innovation;
-        veneration = s .buffs .veneration;
-        «muscle_memory» = s .buffs .«muscle_memory»;
-      };
-      action = s .action;
-    }
+    let quieted = withInnerQuiet (quietAfter c s n efficiency) (s .buffs) in
+    withQuality (qualityAfter c s n efficiency)
+    (withBuffs (withGreatStrides (usedUp efficiency (s .buffs .«great_strides»)) quieted) s)
 
 -- 4
 unfoldable pub wornOf : CraftState → Amount → CraftState
 wornOf s cost =
-    record {
-      step = s .step;
-      progress = s .progress;
-      quality = s .quality;
-      durability = durabilityAfter s cost;
-      cp = s .cp;
-      «previous_combo_action» = s .«previous_combo_action»;
-      «quick_innovation_available» = s .«quick_innovation_available»;
-      «trained_perfection_active» = perfectionAfter (s .«trained_perfection_active») cost;
-      buffs = s .buffs;
-      action = s .action;
-    }
+    withDurability (durabilityAfter s cost)
+    (withPerfection (perfectionAfter (s .«trained_perfection_active») cost) s)
 
 -- 5
 unfoldable pub refreshedOf : CraftContext → CraftState → CraftState
-refreshedOf c s =
-    record {
-      step = s .step;
-      progress = s .progress;
-      quality = s .quality;
-      durability = refreshedTo (s .durability) (s .buffs .manipulation) (c .«durability_max»);
-      cp = s .cp;
-      «previous_combo_action» = s .«previous_combo_action»;
-      «quick_innovation_available» = s .«quick_innovation_available»;
-      «trained_perfection_active» = s .«trained_perfection_active»;
-      buffs = s .buffs;
-      action = s .action;
-    }
+refreshedOf c s = withDurability (refreshedTo (s .durability) (s .buffs .manipulation) (c .«durability_max»)) s
 
 -- 6
 unfoldable pub paidOf : CraftState → ℕ → Amount → CraftState
-paidOf s n cost =
-    record {
-      step = s .step;
-      progress = s .progress;
-      quality = s .quality;
-      durability = s .durability;
-      cp = cpAfter (s .cp) (s .«previous_combo_action») n cost;
-      «previous_combo_action» = s .«previous_combo_action»;
-      «quick_innovation_available» = s .«quick_innovation_available»;
-      «trained_perfection_active» = s .«trained_perfection_active»;
-      buffs = s .buffs;
-      action = s .action;
-    }
+paidOf s n cost = withCp (cpAfter (s .cp) (s .«previous_combo_action») n cost) s
 
 -- 7
 unfoldable pub combinedOf : CraftState → ℕ → CraftState
-combinedOf s n =
-    record {
-      step = s .step;
-      progress = s .progress;
-      quality = s .quality;
-      durability = s .durability;
-      cp = s .cp;
-      «previous_combo_action» = comboAfter (s .«previous_combo_action») n;
-      «quick_innovation_available» = s .«quick_innovation_available»;
-      «trained_perfection_active» = s .«trained_perfection_active»;
-      buffs = s .buffs;
-      action = s .action;
-    }
-
--- the state with other buffs
-abbrev withBuffs : CraftState → Buffs → CraftState
-withBuffs s buffs =
-    record {
-      step = s .step;
-      progress = s .progress;
-      quality = s .quality;
-      durability = s .durability;
-      cp = s .cp;
-      «previous_combo_action» = s .«previous_combo_action»;
-      «quick_innovation_available» = s .«quick_innovation_available»;
-      «trained_perfection_active» = s .«trained_perfection_active»;
-      buffs = buffs;
-      action = s .action;
-    }
+combinedOf s n = withCombo (comboAfter (s .«previous_combo_action») n) s
 
 -- 8
 unfoldable pub timedOf : CraftState → ℕ → CraftState
-timedOf s n = withBuffs s (cond (eqb n A.QuickInnovation) (s .buffs) (tickedOf (s .buffs)))
+timedOf s n = withBuffs (cond (eqb n A.QuickInnovation) (s .buffs) (tickedOf (s .buffs))) s
 
 -- 9: the buffs that the action sets, and the whole
-unfoldable pub buffedOf : CraftState → ℕ → CraftState
-buffedOf s n = withBuffs s (effectOf n (s .buffs))
+abbrev pub buffedOf : CraftState → ℕ → CraftState
+buffedOf s n = withBuffs (effectOf n (s .buffs)) s
 
 unfoldable pub affectedOf : CraftContext → CraftState → ℕ → CraftState
 affectedOf c s n =
-    record {
-      step = s .step;
-      progress = s .progress;
-      quality = s .quality;
-      durability = mendAfter n (s .durability) (c .«durability_max»);
-      cp = s .cp;
-      «previous_combo_action» = s .«previous_combo_action»;
-      «quick_innovation_available» = quickAfter n (s .«quick_innovation_available»);
-      «trained_perfection_active» = perfectedBy n (s .«trained_perfection_active»);
-      buffs = effectOf n (s .buffs);
-      action = s .action;
-    }
+    withDurability (mendAfter n (s .durability) (c .«durability_max»))
+    (withQuick (quickAfter n (s .«quick_innovation_available»))
+    (withPerfection (perfectedBy n (s .«trained_perfection_active»))
+    (buffedOf s n)))
 
 -- all nine, by any row
 unfoldable pub executedOf : CraftContext → CraftState → ℕ → Attributes → CraftState

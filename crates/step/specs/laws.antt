@@ -1,2 +1,3 @@
+pub mod Durability
 pub mod Parts
 pub mod Step

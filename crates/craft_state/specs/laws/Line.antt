@@ -19,12 +19,22 @@ right-most w text a b h = omega (arith, right-length w text)
 share-short : (w part most : ℕ) (unit : List ℕ) → w ≤ 10 → length (shareOf w part most unit) ≤ shareMost + length unit
 unfolding shareOf
 share-short w part most unit h =
-    simp length-append (omega (arith, right-most w (decimalOf part) h (omega arith) (decimal-most part), right-most w (decimalOf most) h (omega arith) (decimal-most most)))
+    simp length-append
+    (omega (
+      arith,
+      right-most w (decimalOf part) h (omega arith) (decimal-most part),
+      right-most w (decimalOf most) h (omega arith) (decimal-most most),
+    ))
 
 signed-share-short : (w : ℕ) (part most : ℤ) (unit : List ℕ) → w ≤ 10 → length (signedShareOf w part most unit) ≤ signedShareMost + length unit
 unfolding signedShareOf
 signed-share-short w part most unit h =
-    simp length-append (omega (arith, right-most w (signedOf part) h (omega arith) (signed-most part), right-most w (signedOf most) h (omega arith) (signed-most most)))
+    simp length-append
+    (omega (
+      arith,
+      right-most w (signedOf part) h (omega arith) (signed-most part),
+      right-most w (signedOf most) h (omega arith) (signed-most most),
+    ))
 
 pub line-short : (c : CraftContext) (s : CraftState) → length (displayOf c s) ≤ lineMost
 unfolding displayOf

@@ -4,7 +4,6 @@ use mathlib.Core.Path.{_≡_, refl, sym, _∙_, subst}
 use mathlib.Core.Bool.{Bool, true, false, cond, not, _&&_}
 use Prim.Native.Nat.{ℕ, _+_, _≤_, _<_, zero-le}
 use native.Mathlib.Nat.{le-trans}
-use native.Mathlib.Omega.{arith}
 use borrow.Author.Tests.{leb-true, leb-false, ltb-true, eqb-true, not-true}
 use lib.Dec.{eqb, leb, ltb}
 use lib.IntN.{pos}
@@ -13,7 +12,6 @@ use lib.Signed.{leZ}
 use Rattle.laws.specs.laws.Tests.{both, and-both, neither}
 use Rattle.laws.specs.Bits.{has}
 use Rattle.laws.specs.laws.Bits.{has-high, has-keep}
-use Rattle.laws.specs.laws.Raise.{raise, gt-raise}
 use Rattle.action.specs.Actions as A
 use Rattle.action.specs.Known.{actions}
 use Rattle.action.specs.Bounds.{RowBounds}
@@ -86,7 +84,7 @@ affords-payable s n row bounds = by (row .«cp_cost») refl
   where
     by : (cost : Amount) → row .«cp_cost» ≡ cost → affords s n cost ≡ true → Payable (s .cp) (s .«previous_combo_action») n cost
     by (Of cost) e t = le-trans (price-at-most bounds e (s .«previous_combo_action»)) (leb-true cost (s .cp) t)
-    by Nothing e t = tt
+    by Nothing e t = zero-le
 
 improve-where : (c : CraftContext) (s : CraftState) (quality : Amount) → mayImprove c s quality ≡ true → Where quality (s .quality < c .«quality_target»)
 improve-where c s (Of efficiency) t = ltb-true (s .quality) (c .«quality_target») t
@@ -96,13 +94,13 @@ improve-where c s Nothing t = tt
 pub record Going (c : CraftContext) (s : CraftState) : Type 0 where
   pub below : s .progress < c .«progress_target»
   pub early : s .step < c .«step_max»
-  pub alive : raise (pos 0) < raise (s .durability)
+  pub alive : leZ (s .durability) (pos 0) ≡ false
 
-pub going : (c : CraftContext) (s : CraftState) → CraftIn c s → ended c s ≡ false → Going c s
-going c s g e =
+pub going : (c : CraftContext) (s : CraftState) → ended c s ≡ false → Going c s
+going c s e =
     let last = neither _ (leZ (s .durability) (pos 0)) e in
     let first = neither (leb (c .«progress_target») (s .progress)) (leb (c .«step_max») (s .step)) (last .0) in
-    record { below = leb-false _ _ (first .0); early = leb-false _ _ (first .1); alive = gt-raise (s .durability) (pos 0) (last .1) (omega (arith, g .state .room .from)) }
+    record { below = leb-false _ _ (first .0); early = leb-false _ _ (first .1); alive = last .1 }
 
 module _ (c : CraftContext) (s : CraftState) (mode : Mode) (n : ℕ) (row : Attributes) where
   -- the price test and the test of quality stand before all others
@@ -139,14 +137,10 @@ module _ (c : CraftContext) (s : CraftState) (mode : Mode) (n : ℕ) (g : CraftI
   pub legal-playable : Playable c s n (attributesOf n)
   legal-playable =
       let parts = both (not (ended c s)) (passesOf c s mode n) (sym (has-moves c s mode n h) ∙ t) in
-      allowed-playable c s mode n (attributesOf n) (rows-bounded n h) g h (going c s g (not-true (ended c s) (parts .0))) (both (has (c .«action_pool» .0) n) (allowsOf c s mode n) (parts .1) .1)
+      allowed-playable c s mode n (attributesOf n) (rows-bounded n h) g h (going c s (not-true (ended c s) (parts .0))) (both (has (c .«action_pool» .0) n) (allowsOf c s mode n) (parts .1) .1)
 
   pub legal-affordable : chargeOf n (s .«previous_combo_action») (attributesOf n .«cp_cost») ≤ s .cp
-  legal-affordable = by (attributesOf n .«cp_cost») (legal-playable .payable)
-    where
-      by : (cost : Amount) → Payable (s .cp) (s .«previous_combo_action») n cost → chargeOf n (s .«previous_combo_action») cost ≤ s .cp
-      by (Of cost) p = p
-      by Nothing p = zero-le
+  legal-affordable = legal-playable .payable
 
   -- QuickInnovation while it is left
   pub legal-quick : n ≡ A.QuickInnovation → s .«quick_innovation_available» ≡ true

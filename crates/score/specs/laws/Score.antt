@@ -17,6 +17,7 @@ use Rattle.laws.specs.Floats.{float}
 use Rattle.craft_state.specs.declared.state.CraftState.{CraftState}
 use Rattle.craft_state.specs.Limits.{stepMost}
 use Rattle.craft_state.specs.Inside.{DurabilityIn, CraftIn}
+use Rattle.craft_state.specs.laws.Inside.{raised}
 use Rattle.score.specs.Score.{one, progressBonus, qualityBonus, durabilityBonus, cpBonus, fewerStepsBonus, cappedOf, partOf, fewerOf, weighedOf, scoreOf}
 
 -- ---- zero of zero earns the full bonus
@@ -90,12 +91,13 @@ part-small bonus value target b =
 
 -- durability may be below 0, by 19 at most
 durability-part-small : (d most : ℤ) → DurabilityIn d most → Small (partOf durabilityBonus (ofInt binary32 d) (ofInt binary32 most)) 19
-durability-part-small d (negsuc n) r = absurd (none n (r .above))
+durability-part-small d (negsuc n) h = absurd (none n (raised h .above))
   where
     none : (n : ℕ) → 1000 < 999 - n → ⊥
     none n h = omega arith
-durability-part-small (pos a) (pos n) r = small-more (partOf durabilityBonus (float a) (float n)) 1 19 (lit≤ tt) (part-small durabilityBonus a n durability-small)
-durability-part-small (negsuc a) (pos n) r =
+durability-part-small (pos a) (pos n) h = small-more (partOf durabilityBonus (float a) (float n)) 1 19 (lit≤ tt) (part-small durabilityBonus a n durability-small)
+durability-part-small (negsuc a) (pos n) h =
+    let r = raised h in
     let value : Small (ofInt binary32 (negsuc a)) 19 = of-neg-small binary32 a 19 (omega (arith, r .from)) (lit≤ tt) in
     let wide : Small (ofInt binary32 (negsuc a)) (19 * n) = small-more (ofInt binary32 (negsuc a)) 19 (19 * n) (omega (arith, r .above)) value in
     let target : HasValue (float n) false n 1 = of-nat-value binary32 n (omega (arith, r .top)) in
@@ -151,7 +153,7 @@ weighed-last context state given P last =
     (add-small binary32 _ _ 1 1 (lit≤ tt)
     (part-small progressBonus _ _ progress-small)
     (part-small qualityBonus _ _ quality-small))
-    (durability-part-small _ _ (given .state .room)))
+    (durability-part-small _ _ (given .state .durability)))
     (part-small cpBonus _ _ cp-small))
 
 module _ (context : CraftContext) (state : CraftState) (given : CraftIn context state) (byte : state .step ≤ stepMost) where

@@ -179,7 +179,7 @@ module _ (c : CraftContext) (mode : Mode) where
           points = rw prices (along-points (startOf c) first start (take-known list k known) l);
           charged = prices;
           step = along-step (startOf c) first;
-          durability = g .state .room;
+          durability = g .state .durability;
           quiet = g .state .buffs .quiet;
           inside = g;
         }

@@ -3,11 +3,11 @@
 use mathlib.Core.Path.{_≡_, refl}
 use mathlib.Core.Bool.{Bool, true, false, cond, _&&_, _||_}
 use Prim.Native.Nat.{ℕ, _+_, _-_, _/_, _≤_, _<_}
-use native.Mathlib.Nat.{le-refl, le-trans, sub-le, sub-add-cancel, add-zero}
+use native.Mathlib.Nat.{le-refl, le-trans, sub-le, sub-add-cancel}
 use native.Mathlib.Omega.{arith}
 use lib.Dec.{eqb, ltb}
 use lib.IntN.{ℤ, pos}
-use Rattle.laws.specs.laws.Raise.{raise}
+use lib.Signed.{leZ}
 use Rattle.laws.specs.laws.Tests.{both, cond-le}
 use Rattle.action.specs.Actions as A
 use Rattle.action.specs.Limits.{wearMost, qualityMost, targetMost, amountMost, quietMost}
@@ -26,25 +26,33 @@ use Rattle.craft_state.specs.declared.state.CraftState.{CraftState}
 use Rattle.craft_state.specs.declared.state.Last.the-variants as L
 use Rattle.craft_state.specs.Limits.{comboAgrees}
 use Rattle.craft_state.specs.Inside.{DurabilityIn, BuffsIn}
-use Rattle.step.specs.Durability.{mendedOf, mastersMends, mended-room, hurt-room}
-use Rattle.step.specs.Parts.{progressAfter, qualityAfter, quietAfter, quietLevel, doublesQuiet, usedUp, isActive, durabilityAfter, cpAfter, onBasicTouch, comboAfter, tickedOf, effectOf, mendAfter}
+use Rattle.craft_state.specs.laws.Inside.{full-in}
+use Rattle.step.specs.Durability.{mendedOf, mastersMends}
+use Rattle.step.specs.laws.Durability.{mended-in, hurt-in}
+use Rattle.step.specs.Parts.{progressAfter, qualityAfter, quietAfter, quietLevel, doublesQuiet, usedUp, isActive, durabilityAfter, cpAfter}
+use Rattle.step.specs.Parts.{onBasicTouch, comboAfter, tickedOf, effectOf, mendAfter}
 use Rattle.step.specs.Asked.{Where, Payable, Progressing, Touching}
 
 -- ---- progress and quality
 
-pub progress-at-most : (c : CraftContext) (s : CraftState) (e : Amount) → Progressing c s e → s .progress ≤ targetMost → progressAfter c s e ≤ amountMost
-progress-at-most c s (Of efficiency) p h = omega (arith, progress-gain-at-most (s .buffs .veneration) (s .buffs .«muscle_memory») (p .factor) (p .row))
+pub progress-at-most : (c : CraftContext) (s : CraftState) (e : Amount)
+    → Progressing c s e → s .progress ≤ targetMost → progressAfter c s e ≤ amountMost
+progress-at-most c s (Of efficiency) p h =
+    omega (arith, progress-gain-at-most (s .buffs .veneration) (s .buffs .«muscle_memory») (p .factor) (p .row))
 progress-at-most c s Nothing p h = p .progress
 
 pub progress-rises : (c : CraftContext) (s : CraftState) (e : Amount) → s .progress ≤ progressAfter c s e
 progress-rises c s (Of efficiency) = omega arith
 progress-rises c s Nothing = le-refl _
 
-touchable : (c : CraftContext) (s : CraftState) {efficiency : ℕ} → Touching c s → efficiency ≤ qualityMost → Touchable (c .«quality_target» - s .quality) (c .«base_quality_factor») efficiency (s .buffs .«inner_quiet»)
+touchable : (c : CraftContext) (s : CraftState) {efficiency : ℕ} → Touching c s → efficiency ≤ qualityMost
+    → Touchable (c .«quality_target» - s .quality) (c .«base_quality_factor») efficiency (s .buffs .«inner_quiet»)
 touchable c s t e = record { target = omega (arith, t .target); factor = t .factor; row = e; quiet = t .quiet }
 
-pub quality-at-most : (c : CraftContext) (s : CraftState) (n : ℕ) (e : Amount) → Touching c s → AtMost qualityMost e → Where e (s .quality < c .«quality_target») → qualityAfter c s n e ≤ amountMost
-quality-at-most c s n (Of efficiency) t h w = omega (arith, quality-gain-at-most n (s .buffs .innovation) (s .buffs .«great_strides») (touchable c s t h), t .target)
+pub quality-at-most : (c : CraftContext) (s : CraftState) (n : ℕ) (e : Amount)
+    → Touching c s → AtMost qualityMost e → Where e (s .quality < c .«quality_target») → qualityAfter c s n e ≤ amountMost
+quality-at-most c s n (Of efficiency) t h w =
+    omega (arith, quality-gain-at-most n (s .buffs .innovation) (s .buffs .«great_strides») (touchable c s t h), t .target)
 quality-at-most c s n Nothing t h w = t .quality
 
 pub quality-rises : (c : CraftContext) (s : CraftState) (n : ℕ) (e : Amount) → s .quality ≤ qualityAfter c s n e
@@ -57,7 +65,9 @@ used-up-at-most Nothing h = h
 
 pub quiet-at-most : (c : CraftContext) (s : CraftState) (n : ℕ) (e : Amount) → s .buffs .«inner_quiet» ≤ quietMost → quietAfter c s n e ≤ quietMost
 quiet-at-most c s n (Of efficiency) h =
-    cond-le (ltb (c .«player_job_level») quietLevel) h (cond-le (eqb n A.ByregotsBlessing) (omega arith) (cond-le (doublesQuiet n (s .«previous_combo_action»)) (omega arith) (omega arith)))
+    cond-le (ltb (c .«player_job_level») quietLevel) h
+    (cond-le (eqb n A.ByregotsBlessing) (omega arith)
+    (cond-le (doublesQuiet n (s .«previous_combo_action»)) (omega arith) (omega arith)))
 quiet-at-most c s n Nothing h = h
 
 -- ---- durability
@@ -70,35 +80,38 @@ wear-at-most cost perfection wasteNot wasteNotII = go perfection (ltb 0 wasteNot
     go false true = omega arith
     go false false = le-refl cost
 
-pub durability-room : (s : CraftState) (most : ℤ) (cost : Amount) → DurabilityIn (s .durability) most → raise (pos 0) < raise (s .durability) → AtMost wearMost cost → DurabilityIn (durabilityAfter s cost) most
-durability-room s most (Of cost) r a h =
-    hurt-room (s .durability) _ most r a (le-trans (wear-at-most cost (isActive (s .«trained_perfection_active»)) (s .buffs .«waste_not») (s .buffs .«waste_not_ii»)) h)
-durability-room s most Nothing r a h = r
+pub worn-in : (s : CraftState) (most : ℤ) (cost : Amount)
+    → DurabilityIn (s .durability) most → leZ (s .durability) (pos 0) ≡ false → AtMost wearMost cost → DurabilityIn (durabilityAfter s cost) most
+worn-in s most (Of cost) r alive h =
+    let less = wear-at-most cost (isActive (s .«trained_perfection_active»)) (s .buffs .«waste_not») (s .buffs .«waste_not_ii») in
+    hurt-in (s .durability) _ most r alive (le-trans less h)
+worn-in s most Nothing r alive h = r
 
-pub mend-room : (n : ℕ) (d most : ℤ) → DurabilityIn d most → DurabilityIn (mendAfter n d most) most
-mend-room n d most r = go (eqb n A.MastersMend) (eqb n A.ImmaculateMend)
+pub mend-in : (n : ℕ) (d most : ℤ) → DurabilityIn d most → DurabilityIn (mendAfter n d most) most
+mend-in n d most r = go (eqb n A.MastersMend) (eqb n A.ImmaculateMend)
   where
     go : (t u : Bool) → DurabilityIn (cond t (mendedOf d mastersMends most) (cond u most d)) most
-    go true u = mended-room d mastersMends most r (le-refl _)
-    go false true = record { from = omega (arith, r .above); to = le-refl _; above = r .above; top = r .top }
+    go true u = mended-in d mastersMends most r (le-refl _)
+    go false true = full-in (r .top)
     go false false = r
 
 -- ---- points and combo
 
 pub points-at-most : (cp : ℕ) (combo : Combo) (n : ℕ) (cost : Amount) → cpAfter cp combo n cost ≤ cp
-points-at-most cp combo n (Of cost) = sub-le cp _
-points-at-most cp combo n Nothing = le-refl _
+points-at-most cp combo n cost = sub-le cp _
 
 -- the points left and the price are the points before
 pub points-paid : (cp : ℕ) (combo : Combo) (n : ℕ) (cost : Amount) → Payable cp combo n cost → cpAfter cp combo n cost + chargeOf n combo cost ≡ cp
-points-paid cp combo n (Of cost) h = sub-add-cancel h
-points-paid cp combo n Nothing h = add-zero cp
+points-paid cp combo n cost h = sub-add-cancel h
 
 pub combo-agrees : (combo : Combo) (n : ℕ) → comboAgrees (comboAfter combo n) (L.Was n) ≡ true
-combo-agrees combo n = go (eqb n A.BasicTouch) refl (eqb n A.Observe) refl (eqb n A.StandardTouch && onBasicTouch combo) (both _ _) (eqb n A.RefinedTouch && onBasicTouch combo) (both _ _)
+combo-agrees combo n =
+    go (eqb n A.BasicTouch) refl (eqb n A.Observe) refl
+    (eqb n A.StandardTouch && onBasicTouch combo) (both _ _) (eqb n A.RefinedTouch && onBasicTouch combo) (both _ _)
   where
     go : (a : Bool) → eqb n A.BasicTouch ≡ a → (b : Bool) → eqb n A.Observe ≡ b
-        → (x : Bool) → (x ≡ true → (eqb n A.StandardTouch ≡ true) × (onBasicTouch combo ≡ true)) → (y : Bool) → (y ≡ true → (eqb n A.RefinedTouch ≡ true) × (onBasicTouch combo ≡ true))
+        → (x : Bool) → (x ≡ true → (eqb n A.StandardTouch ≡ true) × (onBasicTouch combo ≡ true))
+        → (y : Bool) → (y ≡ true → (eqb n A.RefinedTouch ≡ true) × (onBasicTouch combo ≡ true))
         → comboAgrees (cond a C.BasicTouch (cond b C.Observe (cond x C.StandardTouch (cond y C.RefinedTouch C.Nothing)))) (L.Was n) ≡ true
     go true p b q x f y g = p
     go false p true q x f y g = q

@@ -2,13 +2,13 @@
 -- Assumes nothing.
 use mathlib.Core.Path.{_≡_, refl}
 use mathlib.Core.Bool.{Bool, true, false, cond}
-use Prim.Native.Nat.{ℕ, _+_, _≤_, _<_}
+use Prim.Native.Nat.{ℕ, _+_, _≤_}
 use native.Mathlib.Nat.{le-trans, le-of-lt}
 use native.Mathlib.Omega.{arith}
 use borrow.Author.Tests.{lt-ltb}
 use lib.Dec.{eqb}
 use lib.IntN.{pos}
-use Rattle.laws.specs.laws.Raise.{raise}
+use lib.Signed.{leZ}
 use Rattle.action.specs.Actions as A
 use Rattle.action.specs.Bounds.{RowBounds}
 use Rattle.action.specs.Price.{chargeOf}
@@ -17,9 +17,10 @@ use Rattle.craft_context.specs.declared.context.CraftContext.{CraftContext}
 use Rattle.craft_state.specs.declared.state.CraftState.{CraftState}
 use Rattle.craft_state.specs.Limits.{stepLeast}
 use Rattle.craft_state.specs.Inside.{DurabilityIn, BuffsIn, StateIn, CraftIn}
-use Rattle.step.specs.Durability.{refreshed-room}
+use Rattle.step.specs.laws.Durability.{refreshed-in}
 use Rattle.step.specs.Parts.{stepAfter, comboAfter, tickedOf, quickAfter}
-use Rattle.step.specs.laws.Parts.{progress-at-most, progress-rises, quality-at-most, quality-rises, used-up-at-most, quiet-at-most, durability-room, mend-room, points-at-most, points-paid, combo-agrees, ticked-in, effect-in}
+use Rattle.step.specs.laws.Parts.{progress-at-most, progress-rises, quality-at-most, quality-rises, used-up-at-most, quiet-at-most}
+use Rattle.step.specs.laws.Parts.{worn-in, mend-in, points-at-most, points-paid, combo-agrees, ticked-in, effect-in}
 use Rattle.step.specs.Step.{begunOf, progressedOf, improvedOf, wornOf, refreshedOf, paidOf, combinedOf, timedOf, affectedOf, executedOf}
 use Rattle.step.specs.Asked.{Payable, Playable, Progressing, Touching}
 
@@ -64,25 +65,26 @@ module _ (c : CraftContext) (s : CraftState) (n : ℕ) (row : Attributes) where
           quiet = p .given .state .buffs .quiet;
         }
 
-    pub improved-room : DurabilityIn (improved .durability) (c .«durability_max»)
+    pub improved-durability : DurabilityIn (improved .durability) (c .«durability_max»)
     unfolding begunOf progressedOf improvedOf
-    improved-room = p .given .state .room
+    improved-durability = p .given .state .durability
 
-    improved-alive : raise (pos 0) < raise (improved .durability)
+    improved-alive : leZ (improved .durability) (pos 0) ≡ false
     unfolding begunOf progressedOf improvedOf
     improved-alive = p .alive
 
-    pub worn-room : DurabilityIn (worn .durability) (c .«durability_max»)
+    pub worn-durability : DurabilityIn (worn .durability) (c .«durability_max»)
     unfolding wornOf
-    worn-room = durability-room improved (c .«durability_max») (row .«durability_cost») improved-room improved-alive (bounds .durability)
+    worn-durability =
+        worn-in improved (c .«durability_max») (row .«durability_cost») improved-durability improved-alive (bounds .durability)
 
     pub refreshed-payable : Payable (refreshed .cp) (refreshed .«previous_combo_action») n (row .«cp_cost»)
     unfolding begunOf progressedOf improvedOf wornOf refreshedOf
     refreshed-payable = p .payable
 
-    pub timed-room : DurabilityIn (timed .durability) (c .«durability_max»)
+    pub timed-durability : DurabilityIn (timed .durability) (c .«durability_max»)
     unfolding refreshedOf paidOf combinedOf timedOf
-    timed-room = refreshed-room (worn .durability) (worn .buffs .manipulation) (c .«durability_max») worn-room
+    timed-durability = refreshed-in (worn .durability) (worn .buffs .manipulation) (c .«durability_max») worn-durability
 
     -- ---- what the whole keeps
 
@@ -118,7 +120,7 @@ module _ (c : CraftContext) (s : CraftState) (n : ℕ) (row : Attributes) where
           step = step-least (eqb n A.QuickInnovation);
           progress = progress-at-most c begun (row .«progress_efficiency») progressing (le-trans (le-of-lt (p .below)) (x .context .progressTarget));
           quality = quality-at-most c progressed n (row .«quality_efficiency») touching (bounds .quality) (p .quality);
-          room = mend-room n (timed .durability) (c .«durability_max») timed-room;
+          durability = mend-in n (timed .durability) (c .«durability_max») timed-durability;
           cp = le-trans (points-at-most (s .cp) (s .«previous_combo_action») n (row .«cp_cost»)) (x .state .cp);
           combo = combo-agrees (s .«previous_combo_action») n;
           buffs = effect-in n (timed .buffs) timed-buffs;

@@ -3,7 +3,7 @@
 use mathlib.Core.Path.{ap, _∙_}
 use borrow.Author.Needs.{needs}
 use borrow.Author.Tests.{le-leb, lt-leb, eq-eqb, ne-eqb}
-use Rattle.craft_state.specs.laws.Inside.{room-read}
+use Rattle.craft_state.specs.laws.Inside.{durability-read}
 use Rattle.score.specs.Result.{judgedBy}
 use Rattle.score.specs.declared.result.CraftResult.the-variants.{Finished}
 use Rattle.score.proofs.result.judge.Statement.{statement}
@@ -18,22 +18,22 @@ judge-spec =
     (λ c. (ap Finished (c .score .ensures .0) ∙ simp (le-leb _ _ (c .before .if1 .taken)), c .score .ensures .1))
     (λ c.
     let e1 = c .before .before .before in
-    let d = room-read (e1 .before .before .before .pre .state .room) in
+    let d = durability-read (e1 .before .before .before .pre .state .durability) in
     (simp (lt-leb _ _ (e1 .if1 .left), simp (d .0) at (c .if2 .taken)), tt))
     (λ c.
     let e2 = c .before .before .before in
     let e1 = e2 .before .before .before in
-    let d = room-read (e1 .before .before .before .pre .state .room) in
+    let d = durability-read (e1 .before .before .before .pre .state .durability) in
     (simp (lt-leb _ _ (e1 .if1 .left), simp (d .0) at (e2 .if2 .left), le-leb _ _ (c .if3 .taken)), tt))
     (λ c.
     let e3 = c .before in
     let e2 = e3 .before .before .before in
     let e1 = e2 .before .before .before in
-    let d = room-read (e1 .before .before .before .pre .state .room) in
+    let d = durability-read (e1 .before .before .before .pre .state .durability) in
     (simp (lt-leb _ _ (e1 .if1 .left), simp (d .0) at (e2 .if2 .left), lt-leb _ _ (e3 .if3 .left), eq-eqb _ _ (c .if4 .taken)), tt))
     (λ c.
     let e3 = c .before in
     let e2 = e3 .before .before .before in
     let e1 = e2 .before .before .before in
-    let d = room-read (e1 .before .before .before .pre .state .room) in
+    let d = durability-read (e1 .before .before .before .pre .state .durability) in
     (simp (lt-leb _ _ (e1 .if1 .left), simp (d .0) at (e2 .if2 .left), lt-leb _ _ (e3 .if3 .left), ne-eqb _ _ (c .if4 .left)), tt)))

@@ -7,7 +7,7 @@ use mir.Syntax.{w8}
 use mir.Val.{SFits, toZ, ofZ}
 use mir.ValLaws.{toZ-ofZ, toZ-pos}
 use borrow.Author.Needs.{needs}
-use Rattle.step.specs.Durability.{hurt-fits}
+use Rattle.step.specs.laws.Durability.{hurt-fits}
 use Rattle.step.proofs.durability.hurt.Statement.{statement}
 use Rattle.step.proofs.durability.hurt.Tie as tie
 

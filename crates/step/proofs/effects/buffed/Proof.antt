@@ -2,12 +2,11 @@
 -- Assumes nothing.
 use borrow.Author.Tests.{ne-eqb}
 use Rattle.step.specs.Parts.{effectOf}
-use Rattle.step.specs.Step.{buffedOf}
 use Rattle.step.proofs.effects.buffed.Statement.{statement}
 use Rattle.step.proofs.effects.buffed.Tie as tie
 
 pub buffed-spec : {M : Type 1} → statement M
-unfolding buffedOf effectOf
+unfolding effectOf
 buffed-spec =
     tie.close
     (tie.spec

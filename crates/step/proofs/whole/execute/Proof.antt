@@ -5,7 +5,7 @@ use Rattle.action.specs.Bounds.{RowBounds}
 use Rattle.action.specs.laws.Bounds.{rows-bounded}
 use Rattle.action.specs.Table.{attributesOf}
 use Rattle.step.specs.Step.{executedOf}
-use Rattle.step.specs.laws.Step.{progressing, touching, improved-room, worn-room, refreshed-payable, timed-room}
+use Rattle.step.specs.laws.Step.{progressing, touching, improved-durability, worn-durability, refreshed-payable, timed-durability}
 use Rattle.step.proofs.whole.execute.Statement.{statement}
 use Rattle.step.proofs.whole.execute.Tie as tie
 
@@ -26,11 +26,11 @@ execute-spec =
     (λ c κs.
     let b = c .before .before in
     let s = b .before .before in
-    simp (c .improved .ensures, c .before .progressed .ensures, b .begun .ensures, b .before .attributes-of .ensures) (improved-room (s .args .context) (s .args .state) (s .args .n) _ (bounds s) (s .pre), bounds s .durability))
+    simp (c .improved .ensures, c .before .progressed .ensures, b .begun .ensures, b .before .attributes-of .ensures) (improved-durability (s .args .context) (s .args .state) (s .args .n) _ (bounds s) (s .pre), bounds s .durability))
     (λ c κs.
     let b = c .before .before .before in
     let s = b .before .before in
-    simp (c .worn .ensures, c .before .improved .ensures, c .before .before .progressed .ensures, b .begun .ensures, b .before .attributes-of .ensures) (worn-room (s .args .context) (s .args .state) (s .args .n) _ (bounds s) (s .pre)))
+    simp (c .worn .ensures, c .before .improved .ensures, c .before .before .progressed .ensures, b .begun .ensures, b .before .attributes-of .ensures) (worn-durability (s .args .context) (s .args .state) (s .args .n) _ (bounds s) (s .pre)))
     (λ c κs.
     let b = c .before .before .before .before in
     let s = b .before .before in
@@ -41,7 +41,7 @@ execute-spec =
     let r = c .before .before .before in
     let b = r .before .before .before .before in
     let s = b .before .before in
-    simp (c .timed .ensures, c .before .combined .ensures, c .before .before .paid .ensures, r .refreshed .ensures, r .before .worn .ensures, r .before .before .improved .ensures, r .before .before .before .progressed .ensures, b .begun .ensures, b .before .attributes-of .ensures) (timed-room (s .args .context) (s .args .state) (s .args .n) _ (bounds s) (s .pre)))
+    simp (c .timed .ensures, c .before .combined .ensures, c .before .before .paid .ensures, r .refreshed .ensures, r .before .worn .ensures, r .before .before .improved .ensures, r .before .before .before .progressed .ensures, b .begun .ensures, b .before .attributes-of .ensures) (timed-durability (s .args .context) (s .args .state) (s .args .n) _ (bounds s) (s .pre)))
     (λ c.
     let r = c .before .before .before .before in
     let b = r .before .before .before .before in
