@@ -14,8 +14,7 @@ use borrow.Author.Tests.{ltb-true, ltb-false, eqb-true, eqb-false, lt-ltb, le-lt
 use Rattle.laws.specs.Lists.{elem}
 use Rattle.laws.specs.laws.Tests.{or-assoc, or-false}
 use Rattle.tree.specs.declared.node.Node.{Node}
-use Rattle.tree.specs.Best.{isChild}
-use Rattle.tree.specs.Tree.{nodeAt, childrenOf}
+use Rattle.tree.specs.Tree.{nodeAt, isChild, childrenOf}
 
 -- ---- membership in a list with one more, or not
 

@@ -9,8 +9,7 @@ use Rattle.action.specs.Actions.{BasicTouch, Observe}
 use Rattle.tree.specs.declared.node.Node.{Node}
 use Rattle.tree.specs.Node.{one, rootNode, isScore, touchedOf}
 use Rattle.tree.specs.Sound.{isCount, isMaximum, soundAt}
-use Rattle.tree.specs.Best.{pickOf}
-use Rattle.tree.specs.Tree.{soundTo, isSound, childrenOf, aboveIn, isAbove, pathIn, touchedAll, backOf, bestTo, descentIn, solutionOf, endOf}
+use Rattle.tree.specs.Tree.{soundTo, isSound, childrenOf, aboveIn, isAbove, pathIn, touchedAll, backOf, allYield, bestIn, descentIn, solutionOf, endOf}
 
 -- a child of the root that was visited once, with 0.5
 abbrev child : ℕ → Node
@@ -25,11 +24,11 @@ twins-sound = refl
 
 -- children 1 and 2 of the root, both 0.5: the path takes 2
 takes-the-last : solutionOf twins 3 ≡ Observe ∷ []
-unfolding descentIn bestTo pickOf ofBits le lt eq
+unfolding descentIn childrenOf bestIn allYield ofBits lt eq
 takes-the-last = refl
 
 ends-at-it : endOf twins 3 ≡ 2
-unfolding descentIn bestTo pickOf ofBits le lt eq
+unfolding descentIn childrenOf bestIn allYield ofBits lt eq
 ends-at-it = refl
 
 both-children : childrenOf 3 twins 0 ≡ 1 ∷ 2 ∷ []
