@@ -24,7 +24,7 @@ use Rattle.tree.specs.Refusals.{newCount, newTests, insertTests, childrenTests,
 use Rattle.tree.specs.Grow.{Changes}
 use Rattle.crafty_c.specs.declared.answer.CraftyAnswer.{CraftyAnswer}
 use Rattle.crafty_c.specs.declared.trees.CraftySolution.{CraftySolution}
-use Rattle.crafty_c.specs.Answer.{doneOf, refusedOf, reportIn, report-in, answered}
+use Rattle.crafty_c.specs.Answer.{doneOf, refusedOf, reportIn, answered}
 
 -- ---- the answers in numbers: of a new tree its count, of an insertion the new record's number, of a back-propagation nothing, of children how many
 
@@ -60,7 +60,7 @@ abbrev solutionRefused : Refusal → CraftySolution
 solutionRefused x = solvedAt (refusedOf x) 0
 
 abbrev pub solutionAnswered : Kind CraftySolution
-solutionAnswered = record { told = solutionReport; refused = solutionRefused; refusing = report-in }
+solutionAnswered = record { told = solutionReport; refused = solutionRefused; refusing = answered .refusing }
 
 -- ---- the functions
 

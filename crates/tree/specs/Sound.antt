@@ -6,8 +6,8 @@ use lib.Dec.{eqb, ltb}
 use lib.Ieee.{Float, nan, inf, fin, neg, le, eq, toUnsigned}
 use Rattle.action.specs.Known.{actions, known}
 use Rattle.tree.specs.declared.node.Node.{Node}
-use Rattle.tree.specs.Node.{plusZero, one, visitsMost}
-use Rattle.laws.specs.Floats.{float}
+use Rattle.tree.specs.Node.{plusZero, visitsMost}
+use Rattle.laws.specs.Floats.{float, one}
 
 -- record 0 has parent 0 and action 31; others have their parent below their own number, and an action up to 30
 abbrev pub placed : ℕ → ℕ → ℕ → Bool

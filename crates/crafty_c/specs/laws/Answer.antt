@@ -6,6 +6,7 @@ use Prim.Native.Nat.{ℕ}
 use Rattle.refusal.specs.declared.Refusal.{Refusal}
 use Rattle.refusal.specs.declared.Checked.{Checked}
 use Rattle.refusal.specs.declared.Checked.the-variants as C
+use Rattle.refusal.specs.Report.{reportOf}
 use Rattle.refusal.specs.Judge.{Kind, Test, judged, checksOf, Says, Writes}
 use Rattle.refusal.specs.laws.Judge.{judged-passed, judged-refused}
 use Rattle.crafty.specs.declared.room.Written.{Written}
@@ -14,7 +15,12 @@ use Rattle.crafty.specs.declared.lists.Lasting.{Lasting}
 use Rattle.crafty.specs.declared.lists.Lasting.the-variants as L
 use Rattle.crafty.specs.Room.{written}
 use Rattle.crafty.specs.Lists.{lasting}
-use Rattle.crafty_c.specs.Answer.{doneOf, wroteOf, lastedOf, reportIn, report-in, answered}
+use Rattle.crafty_c.specs.Answer.{doneOf, refusedOf, wroteOf, lastedOf, reportIn, answered}
+
+-- ---- document 01's number and values can be read off the answer of every refusal
+
+pub report-in : (x : Refusal) → reportIn (refusedOf x) ≡ reportOf x
+report-in = answered .refusing
 
 -- ---- any kind of answer that is told in another
 

@@ -18,8 +18,8 @@ use Rattle.tree.specs.declared.paths.Solved.the-variants as S
 use Rattle.tree.specs.Grow.{planted, inserted, Plants, Inserts}
 use Rattle.tree.specs.Back.{propagated, Propagates}
 use Rattle.tree.specs.Paths.{listed, solved, Lists, Solves}
-use Rattle.crafty_c.specs.Answer.{reportIn, report-in, answered}
-use Rattle.crafty_c.specs.laws.Answer.{says-told}
+use Rattle.crafty_c.specs.Answer.{reportIn, answered}
+use Rattle.crafty_c.specs.laws.Answer.{report-in, says-told}
 use Rattle.crafty_c.specs.Trees.{plantedAnswer, insertedAnswer, propagatedAnswer, listedAnswer, solvedAnswer, solutionAnswered, TellsPlanted, TellsInserted, TellsPropagated, TellsListed, TellsSolved}
 
 planted-number : (r : Planted) → reportIn (plantedAnswer r) ≡ planted .told r

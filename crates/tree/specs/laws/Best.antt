@@ -10,17 +10,18 @@ use native.Mathlib.Nat.{le-refl, le-of-lt}
 use native.Mathlib.Numerals.{add-one}
 use native.Mathlib.Omega.{arith}
 use lib.Dec.{T, leb, eqb, ltb}
-use lib.Ieee.{Float, nan, inf, fin, up, down, lt, eq, le, ofBits}
+use lib.Ieee.{Float, nan, inf, fin, up, down, lt, eq, le, ofInt}
 use lib.Ieee.Bits.{is-true}
 use lib.Ieee.Fits.{down-pos}
 use lib.Ieee.Positive.{through}
 use borrow.Author.Tests.{leb-true, leb-false, le-leb, ltb-true, ltb-false, lt-ltb, eqb-true, eqb-false, eq-eqb, ne-eqb, not-true}
+use Rattle.laws.specs.Floats.{one}
 use Rattle.laws.specs.Lists.{elem}
 use Rattle.laws.specs.laws.Tests.{true-false, both, neither, and-both, and-true, or-true}
 use Rattle.laws.specs.laws.Small.{or-le}
 use Rattle.tree.specs.declared.node.Node.{Node}
 use Rattle.tree.specs.declared.best.Best.{Best}
-use Rattle.tree.specs.Node.{plusZero, one}
+use Rattle.tree.specs.Node.{plusZero}
 use Rattle.tree.specs.Sound.{isMaximum}
 use Rattle.tree.specs.Tree.{nodeAt, isChild, childrenOf, yields, allYield, bestIn, bestOf}
 use Rattle.tree.specs.inner.Best.{noBest, isBetter, pickOf, bestTo}
@@ -38,7 +39,7 @@ Ordinary (fin true m e) = ⊥
 Ordinary (fin false m e) = Unit {0}
 
 ordinary : (x : Float) → isMaximum x ≡ true → Ordinary x
-unfolding isMaximum le lt eq ofBits
+unfolding isMaximum le lt eq ofInt
 ordinary nan e = true-false (sym e)
 ordinary (inf true) e = true-false (sym e)
 ordinary (inf false) e = true-false (sym e)
