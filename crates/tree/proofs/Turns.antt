@@ -95,5 +95,7 @@ module _ (nodes : List Node) (start target : ℕ) (score : Float) (reaches : Rea
           let other : k ≡ target → ⊥ = eqb-false k target e in
           absurd (true-false (sym (w .above) ∙ above-not nodes (start + 1) target (reaches .climbs .falls) k (omega arith) (w .on)))
 
-  pub write-ends : {now : List Node} {k : ℕ} → Writing nodes start target score now k → k ≡ target → touchedAt now target score ≡ backOf nodes start target score
-  write-ends {now} {k} w e = sym (back-here now (start + 1) target (falls-still w) score) ∙ ap (λ (j : ℕ). backOf now j target score) (sym e) ∙ w .rest
+  -- what is left once the target is touched
+  pub write-ends : {now after : List Node} {k last : ℕ} → Writing nodes start target score now k → k ≡ target → after ≡ touchedAt now last score → last ≡ target → after ≡ backOf nodes start target score
+  write-ends {now} {k = k} w e said there =
+      said ∙ ap (λ (j : ℕ). touchedAt now j score) there ∙ sym (back-here now (start + 1) target (falls-still w) score) ∙ ap (λ (j : ℕ). backOf now j target score) (sym e) ∙ w .rest
