@@ -12,8 +12,7 @@ use borrow.Author.Tests.{eqb-true, eqb-false}
 use Rattle.laws.specs.laws.Tests.{or-assoc, true-false}
 use Rattle.tree.specs.declared.node.Node.{Node}
 use Rattle.tree.specs.Node.{isFull, touchedOf}
-use Rattle.tree.specs.Tree.{nodeAt, isAbove, pathOf, anyFull, touchedAt, backOf}
-use Rattle.tree.specs.laws.Tree.{Falls}
+use Rattle.tree.specs.Tree.{nodeAt, Falls, isAbove, pathOf, anyFull, touchedAt, backOf}
 use Rattle.tree.specs.laws.Climb.{above-here, above-up, above-not, touched-parent}
 use Rattle.tree.specs.laws.Back.{back-here, back-up, full-here, full-up}
 use Rattle.tree.specs.Back.{surveyOf, Climbs, Reaches, Surveys}

@@ -18,8 +18,7 @@ use Rattle.tree.specs.declared.climb.Survey.{Survey}
 use Rattle.tree.specs.declared.back.Propagated.{Propagated}
 use Rattle.tree.specs.declared.back.Propagated.the-variants as P
 use Rattle.tree.specs.Node.{isFull, scoreTest}
-use Rattle.tree.specs.Tree.{isAbove, pathOf, anyFull, backOf}
-use Rattle.tree.specs.laws.Tree.{Falls}
+use Rattle.tree.specs.Tree.{Falls, isAbove, pathOf, anyFull, backOf}
 use Rattle.tree.specs.Grow.{Changes}
 use Rattle.tree.specs.Refusals.{scannedTest, nodeTest, backTests}
 

@@ -2,7 +2,7 @@
 -- Assumes nothing.
 use mathlib.Core.Bool.{Bool, true, false, not, cond, _&&_, _||_}
 use mathlib.Core.List.{List, [], _∷_, _++_, map}
-use Prim.Native.Nat.{ℕ, zero, suc}
+use Prim.Native.Nat.{ℕ, zero, suc, _<_}
 use lib.Dec.{eqb, leb}
 use lib.Ieee.{Float, lt, eq}
 use lib.ListN.{length, getD, set}
@@ -45,6 +45,10 @@ childrenOf zero nodes parent = []
 childrenOf (suc k) nodes parent = childrenOf k nodes parent ++ cond (isChild k (nodeAt nodes k) parent) (k ∷ []) []
 
 -- ---- the way up: a parent is below its child, so from record k on k steps reach record 0
+
+-- so it is of each record below count
+abbrev pub Falls : List Node → ℕ → Type 0
+Falls nodes count = (k : ℕ) → 0 < k → k < count → nodeAt nodes k .parent < k
 
 -- target is record k or above it
 unfoldable pub aboveIn : ℕ → List Node → ℕ → ℕ → Bool

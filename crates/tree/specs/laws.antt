@@ -7,6 +7,7 @@ pub mod Children
 pub mod Best
 pub mod Solution
 pub mod Descent
+pub mod Steps
 pub mod Grow
 pub mod Paths
 pub mod Kept

@@ -13,13 +13,12 @@ use Rattle.laws.specs.Lists.{elem}
 use Rattle.laws.specs.laws.Tests.{true-false, neither, or-true, or-false}
 use Rattle.tree.specs.declared.node.Node.{Node}
 use Rattle.tree.specs.Node.{touchedOf}
-use Rattle.tree.specs.Tree.{nodeAt, aboveIn, isAbove, pathIn, pathOf, touchedAt}
-use Rattle.tree.specs.laws.Tree.{Falls}
+use Rattle.tree.specs.Tree.{nodeAt, Falls, aboveIn, isAbove, pathIn, pathOf, touchedAt}
 
 module _ (nodes : List Node) (count target : ℕ) (falls : Falls nodes count) where
   -- ---- more steps than are needed change nothing
 
-  path-steps : (f g k : ℕ) → k ≤ f → k ≤ g → k < count → pathIn f nodes k target ≡ pathIn g nodes k target
+  pub path-steps : (f g k : ℕ) → k ≤ f → k ≤ g → k < count → pathIn f nodes k target ≡ pathIn g nodes k target
   unfolding pathIn
   path-steps zero zero k p q h = refl
   path-steps zero (suc g) k p q h = simp (eq-eqb k 0 (omega arith), or-true)
@@ -29,7 +28,7 @@ module _ (nodes : List Node) (count target : ℕ) (falls : Falls nodes count) wh
       let below : nodeAt nodes (suc k) .parent < suc k = falls (suc k) (omega arith) h in
       ap (λ (rest : List ℕ). suc k ∷ cond (eqb (suc k) target || eqb (suc k) 0) [] rest) (path-steps f g (nodeAt nodes (suc k) .parent) (omega arith) (omega arith) (omega arith))
 
-  above-steps : (f g k : ℕ) → k ≤ f → k ≤ g → k < count → aboveIn f nodes k target ≡ aboveIn g nodes k target
+  pub above-steps : (f g k : ℕ) → k ≤ f → k ≤ g → k < count → aboveIn f nodes k target ≡ aboveIn g nodes k target
   unfolding aboveIn
   above-steps zero zero k p q h = refl
   above-steps zero (suc g) k p q h = simp (eq-eqb k 0 (omega arith), or-false)

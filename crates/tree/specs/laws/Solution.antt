@@ -7,8 +7,8 @@ use Prim.Native.Nat.{ℕ, zero, suc, _+_, _≤_, _<_}
 use native.Mathlib.Omega.{arith}
 use lib.ListN.{length, length-map}
 use Rattle.tree.specs.declared.node.Node.{Node}
-use Rattle.tree.specs.Tree.{nodeAt, childrenOf, bestOf, onward, descentIn, descentOf, lastOf, solutionOf, endOf}
-use Rattle.tree.specs.laws.Tree.{SoundTree, Falls, tree-falls}
+use Rattle.tree.specs.Tree.{nodeAt, Falls, childrenOf, bestOf, onward, descentIn, descentOf, lastOf, solutionOf, endOf}
+use Rattle.tree.specs.laws.Tree.{SoundTree, tree-falls}
 use Rattle.tree.specs.laws.Best.{child-parent, best-listed, best-childless}
 
 module _ (nodes : List Node) (count : ℕ) (falls : Falls nodes count) where
@@ -23,7 +23,7 @@ module _ (nodes : List Node) (count : ℕ) (falls : Falls nodes count) where
 
   -- ---- more steps than are needed change nothing
 
-  descent-steps : (f g k : ℕ) → count ≤ f + k → count ≤ g + k → descentIn f nodes count k ≡ descentIn g nodes count k
+  pub descent-steps : (f g k : ℕ) → count ≤ f + k → count ≤ g + k → descentIn f nodes count k ≡ descentIn g nodes count k
   unfolding descentIn
   descent-steps zero zero k p q = refl
   descent-steps zero (suc g) k p q = go (bestOf count nodes k) refl

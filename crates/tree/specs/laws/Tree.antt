@@ -18,7 +18,7 @@ use Rattle.tree.specs.declared.node.Node.{Node}
 use Rattle.tree.specs.Node.{nodeOf, rootNode}
 use Rattle.tree.specs.Sound.{soundAt}
 use Rattle.tree.specs.laws.Node.{sound-parts, root-sound, new-sound}
-use Rattle.tree.specs.Tree.{noNode, nodeAt, soundTo, isSound, plantedOf, insertedOf}
+use Rattle.tree.specs.Tree.{noNode, nodeAt, soundTo, isSound, plantedOf, insertedOf, Falls}
 
 -- ---- soundness, record by record
 
@@ -53,9 +53,6 @@ unfolding isSound
 of-tree {nodes} {count} t = simp (le-leb 1 count (t .some), le-leb count (length nodes) (t .room), sound-all count nodes (t .each))
 
 -- ---- a parent is below its child
-
-abbrev pub Falls : List Node → ℕ → Type 0
-Falls nodes count = (k : ℕ) → 0 < k → k < count → nodeAt nodes k .parent < k
 
 pub parent-below : (k : ℕ) (n : Node) → 0 < k → soundAt k n ≡ true → n .parent < k
 parent-below k n some e = ltb-true _ _ (both _ _ (rw (ne-eqb k 0 (λ z. omega arith)) at (sound-parts e .place)) .0)
