@@ -30,3 +30,12 @@ chargedOf n combo Nothing = Nothing
 abbrev pub chargeOf : ℕ → Combo → Amount → ℕ
 chargeOf n combo (Of base) = priceOf n combo base
 chargeOf n combo Nothing = 0
+
+-- ---- a combo as a number, as hosts and the comparison tell it: the order of document 01's limits
+
+abbrev pub comboNumber : Combo → ℕ
+comboNumber C.Nothing = 0
+comboNumber C.BasicTouch = 1
+comboNumber C.StandardTouch = 2
+comboNumber C.RefinedTouch = 3
+comboNumber C.Observe = 4

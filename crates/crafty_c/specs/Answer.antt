@@ -1,4 +1,4 @@
--- The answer of every function: document 01's number, and one value beside it.
+-- Document 01, What comes back on refusal: the number, and "also returned" the value beside it, as every function of include/crafty.h answers them.
 -- Assumes nothing.
 use mathlib.Core.Path.{_≡_, refl}
 use mathlib.Core.Bool.{Bool, cond, _||_}

@@ -1,4 +1,5 @@
--- One record of the tree: made, tested for a visit, and visited with a score. Sums and comparisons are those of binary32, by the logic's account of IEEE 754.
+-- Document 01, Tree: one record. "Insertion takes record number count, floats 0", and of back-propagation "adding 1, the score, and the greater maximum;
+-- .. ours stays +0"; refusals 10 and 11. Sums and comparisons are those of binary32, by the logic's account of IEEE 754.
 -- Assumes nothing.
 use mathlib.Core.Bool.{Bool, cond, _&&_}
 use Prim.Native.Nat.{ℕ}

@@ -1,4 +1,6 @@
--- The tree: a lent run of records and a count of those used. Its soundness, insertion, children, back-propagation and `solution`, as document 01 has them.
+-- Document 01, Tree: "a lent run of records: .., with a count of those used". Its soundness; insertion, which "takes record number count"; children, which
+-- "come in record order"; `backpropagate`, which "goes from start up to target"; and `solution`, which "follows from 0 the child of greatest max_score,
+-- the last of equals, and answers the actions and the last node".
 -- Assumes nothing.
 use mathlib.Core.Bool.{Bool, true, false, not, cond, _&&_, _||_}
 use mathlib.Core.List.{List, [], _∷_, _++_, map}

@@ -1,5 +1,5 @@
--- Inner: how the code finds the child that `solution` takes, in one walk over the records. Contracts of inner functions cite it, and no statement of an entry rests on it:
--- `best-rule` (crates/tree/specs/laws/Best.antt) says that in a sound tree it comes to the child of document 01's rule.
+-- Inner: how the code finds the child that `solution` takes, in one walk over the records. Contracts of inner functions cite it, and no statement
+-- of an entry rests on it: `best-rule` (crates/tree/specs/laws/Best.antt) says that in a sound tree it comes to the child of document 01's rule.
 -- Assumes nothing.
 use mathlib.Core.Bool.{Bool, cond, _&&_, _||_}
 use mathlib.Core.List.{List}

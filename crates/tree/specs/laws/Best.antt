@@ -1,5 +1,5 @@
--- The best child of a sound tree. The walk over the records (crates/tree/specs/inner/Best.antt) comes to the child of document 01's rule; where there is a child there is
--- one to which all give way, and no second.
+-- The best child of a sound tree. The walk over the records (crates/tree/specs/inner/Best.antt) comes to the child of document 01's rule;
+-- where there is a child there is one to which all give way, and no second.
 -- Assumes nothing.
 use mathlib.Core.Path.{_≡_, refl, sym, _∙_}
 use mathlib.Core.Bool.{Bool, true, false, not, cond, _&&_, _||_}
@@ -89,11 +89,13 @@ taken k n = record { at = k; «max_score» = n .«max_score» }
 pub best-child : (m : ℕ) (nodes : List Node) (parent : ℕ) → 0 < bestTo m nodes parent .at → IsChild m nodes parent (bestTo m nodes parent)
 unfolding bestTo pickOf
 best-child zero nodes parent some = absurd (omega arith)
-best-child (suc m) nodes parent some = go (isChild m (nodeAt nodes m) parent && isBetter (bestTo m nodes parent) (nodeAt nodes m)) refl (best-child m nodes parent) some
+best-child (suc m) nodes parent some =
+    go (isChild m (nodeAt nodes m) parent && isBetter (bestTo m nodes parent) (nodeAt nodes m)) refl (best-child m nodes parent) some
   where
     go : (t : Bool) → isChild m (nodeAt nodes m) parent && isBetter (bestTo m nodes parent) (nodeAt nodes m) ≡ t
         → (0 < bestTo m nodes parent .at → IsChild m nodes parent (bestTo m nodes parent))
-        → 0 < cond t (taken m (nodeAt nodes m)) (bestTo m nodes parent) .at → IsChild (suc m) nodes parent (cond t (taken m (nodeAt nodes m)) (bestTo m nodes parent))
+        → 0 < cond t (taken m (nodeAt nodes m)) (bestTo m nodes parent) .at
+        → IsChild (suc m) nodes parent (cond t (taken m (nodeAt nodes m)) (bestTo m nodes parent))
     go true e rest some = record { below = omega arith; child = both _ _ e .0; score = refl }
     go false e rest some = let r = rest some in record { below = omega (arith, r .below); child = r .child; score = r .score }
 
@@ -119,7 +121,8 @@ module _ (nodes : List Node) (parent : ℕ) where
   takes m = isChild m (nodeAt nodes m) parent && isBetter (bestTo m nodes parent) (nodeAt nodes m)
 
   -- a child that is not taken is worse than the one found before it
-  worse : (m : ℕ) → Child m → takes m ≡ false → (0 < bestTo m nodes parent .at) × (le (bestTo m nodes parent .«max_score») (nodeAt nodes m .«max_score») ≡ false)
+  worse : (m : ℕ) → Child m → takes m ≡ false
+      → (0 < bestTo m nodes parent .at) × (le (bestTo m nodes parent .«max_score») (nodeAt nodes m .«max_score») ≡ false)
   worse m is e = no-better (bestTo m nodes parent) (nodeAt nodes m) (rw is at e)
 
   -- where there is a child, one is found
@@ -128,7 +131,8 @@ module _ (nodes : List Node) (parent : ℕ) where
   best-found zero k h is = absurd (omega arith)
   best-found (suc m) k h is = go (takes m) refl (last-or-below k m h) (λ l. best-found m k l is)
     where
-      go : (t : Bool) → takes m ≡ t → (k ≡ m) ⊎ (k < m) → (k < m → 0 < bestTo m nodes parent .at) → 0 < cond t (taken m (nodeAt nodes m)) (bestTo m nodes parent) .at
+      go : (t : Bool) → takes m ≡ t → (k ≡ m) ⊎ (k < m) → (k < m → 0 < bestTo m nodes parent .at)
+          → 0 < cond t (taken m (nodeAt nodes m)) (bestTo m nodes parent) .at
       go true e w rest = child-some m (nodeAt nodes m) parent (both _ _ e .0)
       go false e (inl q) rest = worse m (rw q at is) e .0
       go false e (inr l) rest = rest l
@@ -139,7 +143,8 @@ module _ (nodes : List Node) (parent : ℕ) where
   best-last zero k h is l = absurd (omega arith)
   best-last (suc m) k h is l = go (takes m) refl (last-or-below k m h) (λ b. best-last m k b is) l
     where
-      go : (t : Bool) → takes m ≡ t → (k ≡ m) ⊎ (k < m) → (k < m → bestTo m nodes parent .at < k → le (bestTo m nodes parent .«max_score») (nodeAt nodes k .«max_score») ≡ false)
+      go : (t : Bool) → takes m ≡ t → (k ≡ m) ⊎ (k < m)
+          → (k < m → bestTo m nodes parent .at < k → le (bestTo m nodes parent .«max_score») (nodeAt nodes k .«max_score») ≡ false)
           → cond t (taken m (nodeAt nodes m)) (bestTo m nodes parent) .at < k
           → le (cond t (taken m (nodeAt nodes m)) (bestTo m nodes parent) .«max_score») (nodeAt nodes k .«max_score») ≡ false
       go true e w rest l = absurd (omega arith)
@@ -147,7 +152,8 @@ module _ (nodes : List Node) (parent : ℕ) where
       go false e (inr b) rest l = rest b l
 
   -- the greatest: no child has a greater max_score
-  pub best-greatest : (m : ℕ) → ((k : ℕ) → k < m → isMaximum (nodeAt nodes k .«max_score») ≡ true) → (k : ℕ) → k < m → Child k → T (le (nodeAt nodes k .«max_score») (bestTo m nodes parent .«max_score»))
+  pub best-greatest : (m : ℕ) → ((k : ℕ) → k < m → isMaximum (nodeAt nodes k .«max_score») ≡ true) → (k : ℕ) → k < m → Child k
+      → T (le (nodeAt nodes k .«max_score») (bestTo m nodes parent .«max_score»))
   unfolding bestTo pickOf
   best-greatest zero each k h is = absurd (omega arith)
   best-greatest (suc m) each k h is = go (takes m) refl (last-or-below k m h) (λ l. best-greatest m (λ j b. each j (omega arith)) k l is)
@@ -160,7 +166,8 @@ module _ (nodes : List Node) (parent : ℕ) where
       go true e (inl q) rest = rw q (le-self (nodeAt nodes m .«max_score») (ordinary _ (each m (omega arith))))
       go true e (inr l) rest =
           let some : 0 < bestTo m nodes parent .at = best-found m k l is in
-          le-trans (nodeAt nodes k .«max_score») (bestTo m nodes parent .«max_score») (nodeAt nodes m .«max_score») (ordinary _ (each k h)) (found some) (ordinary _ (each m (omega arith)))
+          le-trans (nodeAt nodes k .«max_score») (bestTo m nodes parent .«max_score») (nodeAt nodes m .«max_score»)
+          (ordinary _ (each k h)) (found some) (ordinary _ (each m (omega arith)))
           (rest l) (holds (better-by (bestTo m nodes parent) (nodeAt nodes m) some (both (isChild m (nodeAt nodes m) parent) _ e .1)))
       go false e (inl q) rest =
           let parts = worse m (rw q at is) e in
@@ -219,7 +226,8 @@ module _ (nodes : List Node) (k : ℕ) where
   yield-each [] e j is = absurd (true-false (sym is))
   yield-each (i ∷ rest) e j is = let parts = both (yields nodes k i) _ e in go (eqb j i) refl (parts .0) is (yield-each rest (parts .1) j)
     where
-      go : (t : Bool) → eqb j i ≡ t → yields nodes k i ≡ true → t || elem rest j ≡ true → (elem rest j ≡ true → yields nodes k j ≡ true) → yields nodes k j ≡ true
+      go : (t : Bool) → eqb j i ≡ t → yields nodes k i ≡ true → t || elem rest j ≡ true → (elem rest j ≡ true → yields nodes k j ≡ true)
+          → yields nodes k j ≡ true
       go true q here is later = rw (eqb-true j i q) here
       go false q here is later = later is
 
@@ -244,7 +252,8 @@ module _ (nodes : List Node) (all : List ℕ) where
   in-only k first (i ∷ rest) is only =
       go (allYield nodes i all) refl (eqb k i) refl is (only i (rw (eq-eqb i i refl))) (λ e. in-only k first rest e (λ j f. only j (rw f (or-true (eqb j i)))))
     where
-      go : (t : Bool) → allYield nodes i all ≡ t → (u : Bool) → eqb k i ≡ u → u || elem rest k ≡ true → (First i → i ≡ k) → (elem rest k ≡ true → bestIn nodes all rest ≡ k)
+      go : (t : Bool) → allYield nodes i all ≡ t → (u : Bool) → eqb k i ≡ u → u || elem rest k ≡ true → (First i → i ≡ k)
+          → (elem rest k ≡ true → bestIn nodes all rest ≡ k)
           → cond t i (bestIn nodes all rest) ≡ k
       go true q u p is here later = here q
       go false q true p is here later = absurd (true-false (sym first ∙ rw (eqb-true k i p) q))
@@ -284,7 +293,9 @@ module _ (nodes : List Node) (count : ℕ) (tree : SoundTree nodes count) (paren
 
   -- no two are such that all children give way to them
   pub best-only : (j k : ℕ) → elem children j ≡ true → elem children k ≡ true → allYield nodes j children ≡ true → allYield nodes k children ≡ true → j ≡ k
-  best-only j k is too f g = yields-both (nodeAt nodes j .«max_score») (nodeAt nodes k .«max_score») j k (in-order j is) (in-order k too) (yield-each nodes k children g j is) (yield-each nodes j children f k too)
+  best-only j k is too f g =
+      yields-both (nodeAt nodes j .«max_score») (nodeAt nodes k .«max_score») j k (in-order j is) (in-order k too)
+      (yield-each nodes k children g j is) (yield-each nodes j children f k too)
 
   walked-child : 0 < walked .at → elem children (walked .at) ≡ true
   walked-child some = let c = best-child count nodes parent some in lists nodes count parent (walked .at) (c .below) (c .child)
@@ -297,7 +308,8 @@ module _ (nodes : List Node) (count : ℕ) (tree : SoundTree nodes count) (paren
       go j is true e =
           let c = best-child count nodes parent some in
           let l = listed nodes count parent j is in
-          yields-before (nodeAt nodes j .«max_score») _ j (walked .at) (leb-true j (walked .at) e) (rw (c .score) at (best-greatest nodes parent count maximum j (l .0) (l .1)))
+          yields-before (nodeAt nodes j .«max_score») _ j (walked .at) (leb-true j (walked .at) e)
+          (rw (c .score) at (best-greatest nodes parent count maximum j (l .0) (l .1)))
       go j is false e =
           let c = best-child count nodes parent some in
           let l = listed nodes count parent j is in
@@ -317,10 +329,12 @@ module _ (nodes : List Node) (count : ℕ) (tree : SoundTree nodes count) (paren
       go false e =
           let other : walked .at ≡ 0 → ⊥ = eqb-false (walked .at) 0 e in
           let some : 0 < walked .at = omega arith in
-          sym (in-only nodes children (walked .at) (walked-first some) children (walked-child some) (λ j is f. best-only j (walked .at) is (walked-child some) f (walked-first some)))
+          sym (in-only nodes children (walked .at) (walked-first some) children (walked-child some)
+          (λ j is f. best-only j (walked .at) is (walked-child some) f (walked-first some)))
 
   -- where there is a child, one is the best: all give way to it
-  pub best-exists : (k : ℕ) → elem children k ≡ true → (elem children (bestOf count nodes parent) ≡ true) × (allYield nodes (bestOf count nodes parent) children ≡ true)
+  pub best-exists : (k : ℕ) → elem children k ≡ true
+      → (elem children (bestOf count nodes parent) ≡ true) × (allYield nodes (bestOf count nodes parent) children ≡ true)
   best-exists k is =
       let l = listed nodes count parent k is in
       in-found nodes children children (rw (← best-rule) (best-found nodes parent count k (l .0) (l .1)))

@@ -82,4 +82,6 @@ module _ (nodes : List Node) (count : ℕ) (tree : SoundTree nodes count) where
         }
 
     pub stored-all : bestOf count nodes p ≡ 0 → out ≡ over os 0 (solutionOf nodes count)
-    stored-all none = sym (over-none out at) ∙ ap (λ (path : List ℕ). over out at (actionsOf nodes path)) (sym (descent-stop nodes count (tree-falls tree) p none)) ∙ stored .rest
+    stored-all none =
+        sym (over-none out at)
+        ∙ ap (λ (path : List ℕ). over out at (actionsOf nodes path)) (sym (descent-stop nodes count (tree-falls tree) p none)) ∙ stored .rest

@@ -3,7 +3,8 @@
 use mathlib.Core.Path.{_≡_, refl, sym, ap, _∙_, subst}
 use mathlib.Core.Bool.{Bool, true, false, not, _&&_, _||_}
 use Prim.Native.Nat.{ℕ, zero, suc, _+_, _-_, _*_, _≤_, _<_, zero-le}
-use native.Mathlib.Nat.{le-trans, le-of-eq, le-of-mul-le-mul-right, eq-of-mul-eq-mul-right, mul-le-mul-right, mul-one, one-mul, zero-mul, add-mul, mul-assoc, mul-right-comm, sub-zero}
+use native.Mathlib.Nat.{le-trans, le-of-eq, le-of-mul-le-mul-right, eq-of-mul-eq-mul-right, mul-le-mul-right}
+use native.Mathlib.Nat.{mul-one, one-mul, zero-mul, add-mul, mul-assoc, mul-right-comm, sub-zero}
 use native.Mathlib.Omega.{arith}
 use lib.Dec.{T, ltb, eqb, lt→ltb, eqb→eq, eqb-refl, lit≤}
 use lib.IntN.{ℤ, pos}
@@ -150,7 +151,8 @@ eq-equals (fin t n d) nan k is h = absurd h
 eq-equals (fin t n d) (inf s) k is h = absurd h
 eq-equals (fin t n d) (fin s m e) k is h =
     let cross : n * up d * down e ≡ m * up e * down d = level-of _ _ _ h in
-    mul-one (m * up e) ∙ eq-of-mul-eq-mul-right (down d) (down-pos d) (m * up e) (k * down e) (sym cross ∙ ap (λ (z : ℕ). z * down e) (sym (mul-one (n * up d)) ∙ is .1) ∙ mul-right-comm k (down d) (down e))
+    mul-one (m * up e) ∙ eq-of-mul-eq-mul-right (down d) (down-pos d) (m * up e) (k * down e)
+    (sym cross ∙ ap (λ (z : ℕ). z * down e) (sym (mul-one (n * up d)) ∙ is .1) ∙ mul-right-comm k (down d) (down e))
 
 pub same-value : (x : Float) (a b : ℕ) → HasValue x false a 1 → Equals x b 1 → a ≡ b
 same-value nan a b p q = absurd p

@@ -19,7 +19,8 @@ use Rattle.action.specs.Known.{known}
 use Rattle.tree.specs.declared.node.Node.{Node}
 use Rattle.tree.specs.Node.{plusZero, minusOne, visitsMost, countMost, nodeOf, rootNode, isScore, isFull, greaterOf, touchedOf}
 use Rattle.tree.specs.Sound.{placed, isCount, within, minus, isMaximum, soundAt}
-use Rattle.tree.specs.laws.Float.{within-small, small-within, count-small, eq-self, eq-equals, same-value, count-more, plus-above, zero-value, one-value, most-value}
+use Rattle.tree.specs.laws.Float.{within-small, small-within, count-small, eq-self, eq-equals, same-value}
+use Rattle.tree.specs.laws.Float.{count-more, plus-above, zero-value, one-value, most-value}
 use Rattle.laws.specs.Floats.{float, one}
 
 pub holds : {b : Bool} → b ≡ true → T b
@@ -58,7 +59,9 @@ module _ (x : Float) (e : isCount x ≡ true) where
 
   pub count-equals : Equals x (toUnsigned 64 x) 1
   unfolding isCount
-  count-equals = eq-equals (float (toUnsigned 64 x)) x (toUnsigned 64 x) (of-nat-value binary32 (toUnsigned 64 x) count-most) (holds (both (le plusZero x && le x visitsMost) _ e .1))
+  count-equals =
+      eq-equals (float (toUnsigned 64 x)) x (toUnsigned 64 x) (of-nat-value binary32 (toUnsigned 64 x) count-most)
+      (holds (both (le plusZero x && le x visitsMost) _ e .1))
 
 pub float-count : (k : ℕ) → k ≤ countMost → isCount (float k) ≡ true
 unfolding isCount inFloat
@@ -66,7 +69,8 @@ float-count k h =
     let value : HasValue (float k) false k 1 = of-nat-value binary32 k h in
     let cut : toUnsigned 64 (float k) ≡ k = unsigned-back binary32 64 k (le→leb k countMost h) (omega arith) .1 in
     let least : le plusZero (float k) ≡ true = is-true _ (le-of-values plusZero (float k) 0 1 k 1 (lit≤ tt) (lit≤ tt) zero-value value (omega arith)) in
-    let most : le (float k) visitsMost ≡ true = is-true _ (le-of-values (float k) visitsMost k 1 countMost 1 (lit≤ tt) (lit≤ tt) value most-value (omega arith)) in
+    let most : le (float k) visitsMost ≡ true = is-true _
+    (le-of-values (float k) visitsMost k 1 countMost 1 (lit≤ tt) (lit≤ tt) value most-value (omega arith)) in
     let whole : eq (float k) (float k) ≡ true = is-true _ (eq-self (float k) k value) in
     simp (least, most, cut, whole)
 

@@ -34,7 +34,8 @@ module _ (nodes : List Node) (count k : ℕ) (out : List ℕ) where
       pub children-short : leb needed (length out) ≡ false → Lists nodes count k out (L.Refused (NoRoom needed)) out
       children-short e = rw is (holds-room sound (holds-room used (fails-room (rw is at e))))
 
-      pub children-listed : leb needed (length out) ≡ true → {len : ℕ} {after : List ℕ} → len ≡ length (childrenOf count nodes k) → after ≡ over out 0 (childrenOf count nodes k)
+      pub children-listed : leb needed (length out) ≡ true → {len : ℕ} {after : List ℕ} → len ≡ length (childrenOf count nodes k)
+          → after ≡ over out 0 (childrenOf count nodes k)
           → Lists nodes count k out (L.Children len) after
       children-listed e same wrote = rw same (holds-room sound (holds-room used (holds-room (rw is at e) (answered-room refl refl wrote))))
 

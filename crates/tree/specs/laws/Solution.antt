@@ -1,4 +1,5 @@
--- Laws of `solution`: the best child is above its parent; how a loop goes down the path; and that the path ends where there is no child, and is shorter than the count.
+-- Laws of `solution`: the best child is above its parent; how a loop goes down the path; and that the path ends where there is no child, and is shorter
+-- than the count.
 -- Assumes nothing.
 use mathlib.Core.Path.{_≡_, refl, ap, _∙_}
 use mathlib.Core.Bool.{not}
@@ -68,7 +69,8 @@ module _ (nodes : List Node) (count : ℕ) (falls : Falls nodes count) where
   descent-length zero k h = omega arith
   descent-length (suc steps) k h = go (bestOf count nodes k) refl (descent-length steps)
     where
-      go : (b : ℕ) → bestOf count nodes k ≡ b → ((b : ℕ) → b < count → length (descentIn steps nodes count b) + b < count) → length (onward b (descentIn steps nodes count)) + k < count
+      go : (b : ℕ) → bestOf count nodes k ≡ b → ((b : ℕ) → b < count → length (descentIn steps nodes count b) + b < count)
+          → length (onward b (descentIn steps nodes count)) + k < count
       go zero e rest = omega arith
       go (suc b) e rest =
           omega (arith, rest (suc b) (omega (arith, e, best-below k (omega (arith, e)))), best-rises k (omega (arith, e)), e)

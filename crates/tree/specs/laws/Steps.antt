@@ -1,5 +1,5 @@
--- Why the counted steps of the definitions are enough. In a sound tree more of them change nothing, `isAbove` tells of every record that going up from parent to parent comes by,
--- and a path ends at the target if that is above, else at record 0.
+-- Why the counted steps of the definitions are enough. In a sound tree more of them change nothing, `isAbove` tells of every record that going up
+-- from parent to parent comes by, and a path ends at the target if that is above, else at record 0.
 -- Assumes nothing.
 use mathlib.Core.Path.{_≡_, refl, sym, ap, _∙_}
 use mathlib.Core.Bool.{Bool, true, false, not, cond, _&&_, _||_}
@@ -46,7 +46,8 @@ module _ (nodes : List Node) (count target : ℕ) (tree : SoundTree nodes count)
   above-more zero some h e = absurd (omega arith)
   above-more (suc k) some h e =
       let below : nodeAt nodes (suc k) .parent < suc k = falls (suc k) some h in
-      simp (eqb·suc-zero, above-steps nodes count target falls k (nodeAt nodes (suc k) .parent) (nodeAt nodes (suc k) .parent) (omega arith) (le-refl _) (omega arith) ∙ e, or-true)
+      let up = above-steps nodes count target falls k (nodeAt nodes (suc k) .parent) (nodeAt nodes (suc k) .parent) (omega arith) (le-refl _) (omega arith) in
+      simp (eqb·suc-zero, up ∙ e, or-true)
 
   root-parent : nodeAt nodes 0 .parent ≡ 0
   root-parent = eqb-true _ 0 (both _ _ (sound-parts (tree .each 0 (tree .some)) .place) .0)
@@ -66,11 +67,14 @@ module _ (nodes : List Node) (count target : ℕ) (tree : SoundTree nodes count)
       go : (t : Bool) → eqb k target ≡ t → k ≡ cond t target 0
       go true e = eqb-true k target e
       go false e = omega arith
-  ends (suc steps) k from l h = go (eqb k target) refl (eqb k 0) refl (λ some. let below : nodeAt nodes k .parent < k = falls k some h in ends steps (nodeAt nodes k .parent) k (omega arith) (omega arith))
+  ends (suc steps) k from l h =
+      go (eqb k target) refl (eqb k 0) refl
+      (λ some. let below : nodeAt nodes k .parent < k = falls k some h in ends steps (nodeAt nodes k .parent) k (omega arith) (omega arith))
     where
       go : (t : Bool) → eqb k target ≡ t → (u : Bool) → eqb k 0 ≡ u
           → (0 < k → lastOf k (pathIn steps nodes (nodeAt nodes k .parent) target) ≡ cond (aboveIn steps nodes (nodeAt nodes k .parent) target) target 0)
-          → lastOf k (cond (t || u) [] (pathIn steps nodes (nodeAt nodes k .parent) target)) ≡ cond (t || (not u && aboveIn steps nodes (nodeAt nodes k .parent) target)) target 0
+          → lastOf k (cond (t || u) [] (pathIn steps nodes (nodeAt nodes k .parent) target))
+          ≡ cond (t || (not u && aboveIn steps nodes (nodeAt nodes k .parent) target)) target 0
       go true e u f later = eqb-true k target e
       go false e true f later = eqb-true k 0 f
       go false e false f later = let other : k ≡ 0 → ⊥ = eqb-false k 0 f in later (omega arith)
@@ -97,5 +101,6 @@ module _ (nodes : List Node) (count start target : ℕ) (sound : isSound nodes c
   path-ends = ends nodes count target (tree-of sound) start start start (le-refl start) used
 
 -- the way down
-pub descent-enough : (nodes : List Node) (count : ℕ) → isSound nodes count ≡ true → (steps k : ℕ) → count ≤ steps → descentIn steps nodes count k ≡ descentOf nodes count k
+pub descent-enough : (nodes : List Node) (count : ℕ) → isSound nodes count ≡ true → (steps k : ℕ) → count ≤ steps
+    → descentIn steps nodes count k ≡ descentOf nodes count k
 descent-enough nodes count sound steps k h = descent-steps nodes count (tree-falls (tree-of sound)) steps count k (omega arith) (omega arith)

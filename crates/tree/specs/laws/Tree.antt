@@ -68,9 +68,11 @@ planted-sound nodes some = record { some = omega arith; room = rw length-set som
     first : (k : ℕ) → k ≡ 0 → soundAt k (nodeAt (plantedOf nodes) k) ≡ true
     first k e = rw (e, getD-set-same nodes 0 rootNode noNode some) root-sound
 
-module _ (nodes : List Node) (count parent action : ℕ) (tree : SoundTree nodes count) (room : count < length nodes) (below : parent < count) (is : known action ≡ true) where
+module _ (nodes : List Node) (count parent action : ℕ) (tree : SoundTree nodes count) (room : count < length nodes)
+    (below : parent < count) (is : known action ≡ true) where
   pub inserted-sound : SoundTree (insertedOf nodes count parent action) (count + 1)
-  inserted-sound = record { some = omega arith; room = rw length-set (omega arith); each = λ k h. ⊎-elim (here k) (before k) (last-or-below k count (rw add-one at h)) }
+  inserted-sound =
+      record { some = omega arith; room = rw length-set (omega arith); each = λ k h. ⊎-elim (here k) (before k) (last-or-below k count (rw add-one at h)) }
     where
       here : (k : ℕ) → k ≡ count → soundAt k (nodeAt (insertedOf nodes count parent action) k) ≡ true
       here k e = rw (e, getD-set-same nodes count (nodeOf parent action) noNode room) (new-sound count parent action (tree .some) below is)
