@@ -38,3 +38,12 @@ chargeOf n combo cost = pointsOf (chargedOf n combo cost)
 abbrev pub affordable : ℕ → Amount → Bool
 affordable points (Of cost) = leb cost points
 affordable points Nothing = true
+
+-- ---- a combo as a number, as hosts and the comparison tell it: the order of document 01's limits
+
+abbrev pub comboNumber : Combo → ℕ
+comboNumber C.Nothing = 0
+comboNumber C.BasicTouch = 1
+comboNumber C.StandardTouch = 2
+comboNumber C.RefinedTouch = 3
+comboNumber C.Observe = 4

@@ -1,4 +1,7 @@
 // A state in a room, its seventeen fields in order, and a result.
+ghost use mathlib.Core.Path.{_≡_};
+ghost use Rattle.action.specs.Price.{comboNumber};
+ghost use Rattle.craft_state.specs.Perfection.{perfectionNumber};
 use compare_lines::page;
 use crafty::Buffs;
 use crafty::Combo;
@@ -7,7 +10,9 @@ use crafty::CraftState;
 use crafty::Last;
 use crafty::Perfection;
 
-fn combo(c: Combo) -> u32 {
+fn combo(c: Combo) -> u32
+    ensures { λ r. ⌜ r ≡ comboNumber c ⌝ }
+{
     match c {
         Combo::Nothing => 0,
         Combo::BasicTouch => 1,
@@ -17,7 +22,9 @@ fn combo(c: Combo) -> u32 {
     }
 }
 
-fn perfection(p: Perfection) -> u32 {
+fn perfection(p: Perfection) -> u32
+    ensures { λ r. ⌜ r ≡ perfectionNumber p ⌝ }
+{
     match p {
         Perfection::Unused => 0,
         Perfection::Active => 1,

@@ -3,4 +3,5 @@ pub mod Setters
 pub mod Start
 pub mod Line
 pub mod Inside
+pub mod Perfection
 pub mod laws

@@ -1,4 +1,4 @@
--- The answer of every function: document 01's number, and one value beside it.
+-- Document 01, What comes back on refusal: the number, and "also returned" the value beside it, as every function of include/crafty.h answers them.
 -- Assumes nothing.
 use mathlib.Core.Path.{_≡_, refl}
 use mathlib.Core.Bool.{Bool, cond, _||_}
@@ -45,20 +45,21 @@ hasValue number = eqb number 3 || eqb number 5 || eqb number 6
 abbrev pub reportIn : CraftyAnswer → Report
 reportIn answer = record { 0 = answer .number; 1 = cond (hasValue (answer .number)) (Value (answer .value)) Nothing }
 
-pub report-in : (x : Refusal) → reportIn (refusedOf x) ≡ reportOf x
-report-in X.OutsideLimits = refl
-report-in X.StateOutOfRange = refl
-report-in (X.UnknownAction place) = refl
-report-in X.IllegalAction = refl
-report-in (X.UnknownWord offset) = refl
-report-in (X.NoRoom needed) = refl
-report-in X.UnsoundTree = refl
-report-in X.UnknownNode = refl
-report-in X.NotAbove = refl
-report-in X.BadScore = refl
-report-in X.VisitsFull = refl
-report-in X.MalformedLine = refl
-report-in X.TooLong = refl
-
+-- a refusal's number and values can be read off
 abbrev pub answered : Kind CraftyAnswer
-answered = record { told = reportIn; refused = refusedOf; refusing = report-in }
+answered = record { told = reportIn; refused = refusedOf; refusing = readable }
+  where
+    readable : (x : Refusal) → reportIn (refusedOf x) ≡ reportOf x
+    readable X.OutsideLimits = refl
+    readable X.StateOutOfRange = refl
+    readable (X.UnknownAction place) = refl
+    readable X.IllegalAction = refl
+    readable (X.UnknownWord offset) = refl
+    readable (X.NoRoom needed) = refl
+    readable X.UnsoundTree = refl
+    readable X.UnknownNode = refl
+    readable X.NotAbove = refl
+    readable X.BadScore = refl
+    readable X.VisitsFull = refl
+    readable X.MalformedLine = refl
+    readable X.TooLong = refl

@@ -1,19 +1,18 @@
--- A replay's report as numbers, in the order that include/crafty.h gives.
+-- Document 01, Results and scores: replay "reports the state, its moves, the result and the number executed". These as numbers, in the order that
+-- include/crafty.h gives.
 -- Assumes nothing.
 use mathlib.Core.Bool.{Bool, cond}
 use mathlib.Core.List.{List, [], _∷_, _++_}
 use Prim.Native.Nat.{ℕ, _-_, _^_}
 use lib.Ieee.{binary32, toBits}
 use lib.IntN.{ℤ, pos, negsuc}
-use Rattle.action.specs.declared.price.Combo.{Combo}
-use Rattle.action.specs.declared.price.Combo.the-variants as C
 use Rattle.action.specs.Known.{actions}
+use Rattle.action.specs.Price.{comboNumber}
 use Rattle.craft_state.specs.declared.buffs.Buffs.{Buffs}
 use Rattle.craft_state.specs.declared.state.CraftState.{CraftState}
 use Rattle.craft_state.specs.declared.state.Last.{Last}
 use Rattle.craft_state.specs.declared.state.Last.the-variants as L
-use Rattle.craft_state.specs.declared.state.Perfection.{Perfection}
-use Rattle.craft_state.specs.declared.state.Perfection.the-variants as P
+use Rattle.craft_state.specs.Perfection.{perfectionNumber}
 use Rattle.score.specs.declared.result.CraftResult.{CraftResult}
 use Rattle.score.specs.declared.result.CraftResult.the-variants as R
 use Rattle.score.specs.Result.{verdictOf}
@@ -35,18 +34,6 @@ scoreNumber R.Continuing = 0
 abbrev pub wordOf : ℤ → ℕ
 wordOf (pos n) = n
 wordOf (negsuc k) = 2 ^ 32 - 1 - k
-
-abbrev pub comboNumber : Combo → ℕ
-comboNumber C.Nothing = 0
-comboNumber C.BasicTouch = 1
-comboNumber C.StandardTouch = 2
-comboNumber C.RefinedTouch = 3
-comboNumber C.Observe = 4
-
-abbrev pub perfectionNumber : Perfection → ℕ
-perfectionNumber P.Unused = 0
-perfectionNumber P.Active = 1
-perfectionNumber P.Spent = 2
 
 -- none is one past the actions
 abbrev pub lastNumber : Last → ℕ

@@ -1,4 +1,4 @@
--- What the replay of a list of numbers answers, and what the lent numbers hold then.
+-- Document 01, Results and scores, for hosts: what the replay of a list of numbers answers, refused by 1, 3 and 6, and what the lent numbers hold then.
 -- Assumes nothing.
 use mathlib.Core.List.{List, [], _∷_, _++_}
 use Prim.Native.Nat.{ℕ}
@@ -28,4 +28,5 @@ Reports context mode list out r after = Writes answered (reportTests list out) (
 
 -- in a context given by its numbers: refusal 1 for one that does not fit its field or is outside its limit
 abbrev pub TellsNumbers : List ℕ → Mode → List ℕ → List ℕ → CraftyAnswer → List ℕ → Type 0
-TellsNumbers values mode list out r after = Writes answered (numberTests values ++ reportTests list out) (doneOf numbersLength) out (reported (contextOf values) mode list out) r after
+TellsNumbers values mode list out r after =
+    Writes answered (numberTests values ++ reportTests list out) (doneOf numbersLength) out (reported (contextOf values) mode list out) r after

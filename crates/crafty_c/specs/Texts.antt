@@ -1,4 +1,5 @@
--- What each function on text answers, for any bytes, and what the lent room holds then: as its entry in crafty, told in a number and a value.
+-- Document 01, Text and The replay program, for hosts: what each function on text answers, for any bytes, and what the lent room holds then. As its
+-- entry in crafty, told in a number and a value.
 -- Assumes nothing.
 use mathlib.Core.List.{List, [], _∷_, _++_}
 use Prim.Native.Nat.{ℕ}

@@ -1,4 +1,5 @@
--- What each function over a host's records answers, and what the records or the lent room hold then: as its entry in tree, told in numbers.
+-- Document 01, Tree, for hosts: what each function over a host's records answers, and what the records or the lent room hold then. As its entry in
+-- tree, told in numbers.
 -- Assumes nothing.
 use mathlib.Core.List.{List}
 use Prim.Native.Nat.{ℕ}
@@ -24,7 +25,7 @@ use Rattle.tree.specs.Refusals.{newCount, newTests, insertTests, childrenTests,
 use Rattle.tree.specs.Grow.{Changes}
 use Rattle.crafty_c.specs.declared.answer.CraftyAnswer.{CraftyAnswer}
 use Rattle.crafty_c.specs.declared.trees.CraftySolution.{CraftySolution}
-use Rattle.crafty_c.specs.Answer.{doneOf, refusedOf, reportIn, report-in, answered}
+use Rattle.crafty_c.specs.Answer.{doneOf, refusedOf, reportIn, answered}
 
 -- ---- the answers in numbers: of a new tree its count, of an insertion the new record's number, of a back-propagation nothing, of children how many
 
@@ -60,7 +61,7 @@ abbrev solutionRefused : Refusal → CraftySolution
 solutionRefused x = solvedAt (refusedOf x) 0
 
 abbrev pub solutionAnswered : Kind CraftySolution
-solutionAnswered = record { told = solutionReport; refused = solutionRefused; refusing = report-in }
+solutionAnswered = record { told = solutionReport; refused = solutionRefused; refusing = answered .refusing }
 
 -- ---- the functions
 
@@ -68,15 +69,19 @@ abbrev pub TellsPlanted : List Node → CraftyAnswer → List Node → Type 0
 TellsPlanted nodes r after = Changes answered (newTests nodes) (doneOf newCount) nodes (plantedOf nodes) r after
 
 abbrev pub TellsInserted : List Node → ℕ → ℕ → ℕ → CraftyAnswer → List Node → Type 0
-TellsInserted nodes count parent action r after = Changes answered (insertTests nodes count parent action) (doneOf count) nodes (insertedOf nodes count parent action) r after
+TellsInserted nodes count parent action r after =
+    Changes answered (insertTests nodes count parent action) (doneOf count) nodes (insertedOf nodes count parent action) r after
 
 abbrev pub TellsPropagated : List Node → ℕ → ℕ → ℕ → Float → CraftyAnswer → List Node → Type 0
-TellsPropagated nodes count start target score r after = Changes answered (backTests nodes count start target score) (doneOf 0) nodes (backOf nodes start target score) r after
+TellsPropagated nodes count start target score r after =
+    Changes answered (backTests nodes count start target score) (doneOf 0) nodes (backOf nodes start target score) r after
 
 abbrev pub TellsListed : List Node → ℕ → ℕ → List ℕ → CraftyAnswer → List ℕ → Type 0
 TellsListed nodes count node out r after =
-    Writes answered (childrenTests nodes count node (length out)) (doneOf (length (childrenOf count nodes node))) out (over out 0 (childrenOf count nodes node)) r after
+    Writes answered (childrenTests nodes count node (length out)) (doneOf (length (childrenOf count nodes node)))
+    out (over out 0 (childrenOf count nodes node)) r after
 
 abbrev pub TellsSolved : List Node → ℕ → List ℕ → CraftySolution → List ℕ → Type 0
 TellsSolved nodes count out r after =
-    Writes solutionAnswered (solutionTests nodes count (length out)) (solvedAt (doneOf (length (solutionOf nodes count))) (endOf nodes count)) out (over out 0 (solutionOf nodes count)) r after
+    Writes solutionAnswered (solutionTests nodes count (length out)) (solvedAt (doneOf (length (solutionOf nodes count))) (endOf nodes count))
+    out (over out 0 (solutionOf nodes count)) r after

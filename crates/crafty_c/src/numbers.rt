@@ -2,10 +2,12 @@
 ghost use mathlib.Core.Path.{_≡_};
 ghost use Prim.Native.Nat.{_≤_};
 ghost use lib.ListN.{length};
+ghost use Rattle.action.specs.Price.{comboNumber};
 ghost use Rattle.craft_state.specs.Limits.{stepMost};
+ghost use Rattle.craft_state.specs.Perfection.{perfectionNumber};
 ghost use Rattle.score.specs.Result.{verdictOf, ScoreIsNumber};
 ghost use Rattle.text.specs.Over.{over};
-ghost use Rattle.crafty_c.specs.Numbers.{scoreNumber, wordOf, comboNumber, perfectionNumber, lastNumber, flagNumber, replayNumbers};
+ghost use Rattle.crafty_c.specs.Numbers.{scoreNumber, wordOf, lastNumber, flagNumber, replayNumbers};
 use action::ACTIONS;
 use action::Combo;
 use craft_state::Last;

@@ -8,6 +8,10 @@ use lib.Ieee.{Float, binary32, ofInt, div}
 abbrev pub float : ℕ → Float
 float n = ofInt binary32 (pos n)
 
+-- 1
+abbrev pub one : Float
+one = float 1
+
 -- so many hundredths, rounded
 abbrev pub hundredths : ℕ → Float
 hundredths n = div binary32 (float n) (float 100)

@@ -12,8 +12,7 @@ use borrow.Author.Tests.{eqb-true, eqb-false}
 use Rattle.laws.specs.laws.Tests.{or-assoc, true-false}
 use Rattle.tree.specs.declared.node.Node.{Node}
 use Rattle.tree.specs.Node.{isFull, touchedOf}
-use Rattle.tree.specs.Tree.{nodeAt, isAbove, pathOf, anyFull, touchedAt, backOf}
-use Rattle.tree.specs.laws.Tree.{Falls}
+use Rattle.tree.specs.Tree.{nodeAt, Falls, isAbove, pathOf, anyFull, touchedAt, backOf}
 use Rattle.tree.specs.laws.Climb.{above-here, above-up, above-not, touched-parent}
 use Rattle.tree.specs.laws.Back.{back-here, back-up, full-here, full-up}
 use Rattle.tree.specs.Back.{surveyOf, Climbs, Reaches, Surveys}
@@ -95,5 +94,7 @@ module _ (nodes : List Node) (start target : ℕ) (score : Float) (reaches : Rea
           let other : k ≡ target → ⊥ = eqb-false k target e in
           absurd (true-false (sym (w .above) ∙ above-not nodes (start + 1) target (reaches .climbs .falls) k (omega arith) (w .on)))
 
-  pub write-ends : {now : List Node} {k : ℕ} → Writing nodes start target score now k → k ≡ target → touchedAt now target score ≡ backOf nodes start target score
-  write-ends {now} {k} w e = sym (back-here now (start + 1) target (falls-still w) score) ∙ ap (λ (j : ℕ). backOf now j target score) (sym e) ∙ w .rest
+  -- what is left once the target is touched
+  pub write-ends : {now after : List Node} {k last : ℕ} → Writing nodes start target score now k → k ≡ target → after ≡ touchedAt now last score → last ≡ target → after ≡ backOf nodes start target score
+  write-ends {now} {k = k} w e said there =
+      said ∙ ap (λ (j : ℕ). touchedAt now j score) there ∙ sym (back-here now (start + 1) target (falls-still w) score) ∙ ap (λ (j : ℕ). backOf now j target score) (sym e) ∙ w .rest

@@ -10,8 +10,8 @@ use denote.Laws.{Is}
 use denote.Struct.Laws as LL
 use Rattle.text.specs.Over.{over, Put}
 use Rattle.tree.specs.declared.node.Node.{Node}
-use Rattle.tree.specs.Best.{isChild, noBest, pickOf}
-use Rattle.tree.specs.Tree.{bestTo, childrenOf, solutionOf, endOf}
+use Rattle.tree.specs.Tree.{isChild, childrenOf, bestOf, solutionOf, endOf}
+use Rattle.tree.specs.inner.Best.{noBest, pickOf}
 use Rattle.tree.specs.laws.Tree.{SoundTree}
 use Rattle.tree.proofs.node.Node as T
 use Rattle.tree.proofs.node.Node.Laws as T′
@@ -33,7 +33,7 @@ abbrev pub pick′ : PlainFn
 pick′ = record { takes = best′ ∷ usize′ ∷ node′ ∷ usize′ ∷ []; gives = best′; asks = nothing-asked; says = λ a r. r ≡ pickOf (a .0) (a .1 .0) (a .1 .1 .0) (a .1 .1 .1 .0) }
 
 abbrev pub best-child′ : ShrFn T.the-row
-best-child′ = record { takes = usize′ ∷ usize′ ∷ []; gives = best′; asks = that (λ xs a. a .0 ≤ length xs); says = λ xs a r. r ≡ bestTo (a .0) xs (a .1 .0) }
+best-child′ = record { takes = usize′ ∷ usize′ ∷ []; gives = best′; asks = that (λ xs a. SoundTree xs (a .0)); says = λ xs a r. r .at ≡ bestOf (a .0) xs (a .1 .0) }
 
 abbrev pub solution-len′ : ShrFn T.the-row
 solution-len′ = record { takes = usize′ ∷ []; gives = usize′; asks = that (λ xs a. SoundTree xs (a .0)); says = λ xs a r. r ≡ length (solutionOf xs (a .0)) }

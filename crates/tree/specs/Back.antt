@@ -1,4 +1,5 @@
--- Back-propagation: what the walk that tests the way up finds, and what the entry answers.
+-- Document 01, Tree: "`backpropagate` goes from start up to target". What the entry answers and what the records then hold; and below it, for inner
+-- functions, what the walk that tests the way up finds.
 -- Assumes nothing.
 use mathlib.Core.Path.{_≡_, refl}
 use mathlib.Core.Bool.{Bool, true, false, not, _||_}
@@ -18,8 +19,7 @@ use Rattle.tree.specs.declared.climb.Survey.{Survey}
 use Rattle.tree.specs.declared.back.Propagated.{Propagated}
 use Rattle.tree.specs.declared.back.Propagated.the-variants as P
 use Rattle.tree.specs.Node.{isFull, scoreTest}
-use Rattle.tree.specs.Tree.{isAbove, pathOf, anyFull, backOf}
-use Rattle.tree.specs.laws.Tree.{Falls}
+use Rattle.tree.specs.Tree.{Falls, isAbove, pathOf, anyFull, backOf}
 use Rattle.tree.specs.Grow.{Changes}
 use Rattle.tree.specs.Refusals.{scannedTest, nodeTest, backTests}
 
@@ -35,7 +35,8 @@ propagated = record { told = propagatedTold; refused = P.Refused; refusing = λ 
 
 -- refusals 7, 8 for start or target, 9, 10 and 11; the records on the path are touched, and no other
 abbrev pub Propagates : List Node → ℕ → ℕ → ℕ → Float → Propagated → List Node → Type 0
-Propagates nodes count start target score r after = Changes propagated (backTests nodes count start target score) P.Done nodes (backOf nodes start target score) r after
+Propagates nodes count start target score r after =
+    Changes propagated (backTests nodes count start target score) P.Done nodes (backOf nodes start target score) r after
 
 -- ---- the way up
 
@@ -64,7 +65,8 @@ abbrev pub endTests : Bool → ℕ → ℕ → ℕ → List Test
 endTests sound count start target = scannedTest sound ∷ nodeTest count start ∷ nodeTest count target ∷ []
 
 abbrev pub wayTests : Survey → Float → List Test
-wayTests survey score = record { passed = survey .above; otherwise = NotAbove } ∷ scoreTest score ∷ record { passed = not (survey .full); otherwise = VisitsFull } ∷ []
+wayTests survey score =
+    record { passed = survey .above; otherwise = NotAbove } ∷ scoreTest score ∷ record { passed = not (survey .full); otherwise = VisitsFull } ∷ []
 
 abbrev pub isPassed : Checked → Bool
 isPassed C.Passed = true

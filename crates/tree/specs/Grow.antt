@@ -1,4 +1,5 @@
--- What the entries over a growing tree answer: a new tree, insertion, and a record by its number.
+-- Document 01, Tree, and "what each lent byte or record then holds, refusals too": what the entries over a growing tree answer, a new tree, insertion, and a
+-- record by its number.
 -- Assumes nothing.
 use mathlib.Core.Path.{_≡_, refl}
 use mathlib.Core.Bool.{Bool, true, false}
@@ -56,7 +57,8 @@ PlantAnswer records r = Says planted (roomTest records newCount ∷ []) (P.Count
 
 -- the new record's number is the count, and the new count is one more
 abbrev pub InsertAnswer : Bool → ℕ → ℕ → ℕ → ℕ → Inserted → Type 0
-InsertAnswer sound records count parent action r = Says inserted (actionTest action ∷ scannedTest sound ∷ nodeTest count parent ∷ roomTest records (count + 1) ∷ []) (I.At count (count + 1)) r
+InsertAnswer sound records count parent action r =
+    Says inserted (actionTest action ∷ scannedTest sound ∷ nodeTest count parent ∷ roomTest records (count + 1) ∷ []) (I.At count (count + 1)) r
 
 -- ---- the entries: the answer, and what the records hold then, which is what they held where a test fails
 
@@ -68,7 +70,8 @@ abbrev pub Plants : List Node → Planted → List Node → Type 0
 Plants nodes r after = Changes planted (newTests nodes) (P.Count newCount) nodes (plantedOf nodes) r after
 
 abbrev pub Inserts : List Node → ℕ → ℕ → ℕ → Inserted → List Node → Type 0
-Inserts nodes count parent action r after = Changes inserted (insertTests nodes count parent action) (I.At count (count + 1)) nodes (insertedOf nodes count parent action) r after
+Inserts nodes count parent action r after =
+    Changes inserted (insertTests nodes count parent action) (I.At count (count + 1)) nodes (insertedOf nodes count parent action) r after
 
 abbrev pub Looks : List Node → ℕ → ℕ → Recorded → Type 0
 Looks nodes count k r = Says recorded (recordTests nodes count k) (R.Record (nodeAt nodes k)) r

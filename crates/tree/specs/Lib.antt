@@ -1,9 +1,9 @@
 pub mod Node
 pub mod Sound
-pub mod Best
 pub mod Tree
 pub mod Refusals
 pub mod Grow
 pub mod Back
 pub mod Paths
+pub mod inner
 pub mod laws

@@ -1,26 +1,24 @@
--- One record of the tree: made, tested for a visit, and visited with a score. Sums and comparisons are those of binary32, by the logic's account of IEEE 754.
+-- Document 01, Tree: one record. "Insertion takes record number count, floats 0", and of back-propagation "adding 1, the score, and the greater maximum;
+-- .. ours stays +0"; refusals 10 and 11. Sums and comparisons are those of binary32, by the logic's account of IEEE 754.
 -- Assumes nothing.
 use mathlib.Core.Bool.{Bool, cond, _&&_}
 use Prim.Native.Nat.{ℕ}
-use lib.Ieee.{Float, binary32, ofBits, add, lt, le}
-use Rattle.laws.specs.Floats.{float}
+use lib.IntN.{negsuc}
+use lib.Ieee.{Float, binary32, ofInt, add, lt, le}
+use Rattle.laws.specs.Floats.{float, one}
 use Rattle.refusal.specs.Judge.{Test}
 use Rattle.refusal.specs.declared.Refusal.the-variants.{BadScore}
 use Rattle.action.specs.Known.{actions}
 use Rattle.tree.specs.declared.node.Node.{Node}
 
--- ---- the numbers: +0.0, 1.0, -1.0
+-- ---- the numbers: +0, -1 and the most visits, as whole numbers
 
 abbrev pub plusZero : Float
-plusZero = ofBits binary32 0
-
-abbrev pub one : Float
-one = ofBits binary32 0x3f80_0000
+plusZero = float 0
 
 abbrev pub minusOne : Float
-minusOne = ofBits binary32 0xbf80_0000
+minusOne = ofInt binary32 (negsuc 0)
 
--- the most visits
 abbrev pub countMost : ℕ
 countMost = 16777216
 

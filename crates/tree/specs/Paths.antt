@@ -1,4 +1,5 @@
--- What the entries answer that list the children of a record and the solution that a tree holds, and what the lent room holds then.
+-- Document 01, Tree: "Children come in record order", and `solution` "answers the actions and the last node". What these entries answer, and what the
+-- lent room holds then.
 -- Assumes nothing.
 use mathlib.Core.Path.{refl}
 use mathlib.Core.List.{List}
@@ -37,9 +38,11 @@ solved = record { told = solvedTold; refused = S.Refused; refusing = λ x. refl 
 -- refusals 7, 8 and 6; else how many children there are, and their numbers at the front of the room
 abbrev pub Lists : List Node → ℕ → ℕ → List ℕ → Offspring → List ℕ → Type 0
 Lists nodes count k out r after =
-    Writes listed (childrenTests nodes count k (length out)) (L.Children (length (childrenOf count nodes k))) out (over out 0 (childrenOf count nodes k)) r after
+    Writes listed (childrenTests nodes count k (length out)) (L.Children (length (childrenOf count nodes k)))
+    out (over out 0 (childrenOf count nodes k)) r after
 
 -- refusals 7 and 6; else how many actions there are and the last record, and the actions at the front of the room
 abbrev pub Solves : List Node → ℕ → List ℕ → Solved → List ℕ → Type 0
 Solves nodes count out r after =
-    Writes solved (solutionTests nodes count (length out)) (S.Solution (length (solutionOf nodes count)) (endOf nodes count)) out (over out 0 (solutionOf nodes count)) r after
+    Writes solved (solutionTests nodes count (length out)) (S.Solution (length (solutionOf nodes count)) (endOf nodes count))
+    out (over out 0 (solutionOf nodes count)) r after

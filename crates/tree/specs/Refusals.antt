@@ -1,4 +1,4 @@
--- The tests of the tree's entries, in the order of document 01's refusals.
+-- Document 01, What comes back on refusal: the tests of the tree's entries, 3, 7, 8, 9, 10 and 11 in this order, and 6 last.
 -- Assumes nothing.
 use mathlib.Core.Bool.{Bool, not}
 use mathlib.Core.List.{List, [], _∷_}

@@ -1,4 +1,5 @@
--- Soundness of one record at its number, as document 01 has it.
+-- Document 01, Tree: when a record is sound at its number. "Record 0 has parent 0, action 31. Others: parent below own number, action ≤ 30. All: visits whole,
+-- 0..=16,777,216; |score_sum| ≤ visits; max_score from +0 to 1, minus zero excluded.
 -- Assumes nothing.
 use mathlib.Core.Bool.{Bool, false, not, cond, _&&_}
 use Prim.Native.Nat.{ℕ}
@@ -6,8 +7,8 @@ use lib.Dec.{eqb, ltb}
 use lib.Ieee.{Float, nan, inf, fin, neg, le, eq, toUnsigned}
 use Rattle.action.specs.Known.{actions, known}
 use Rattle.tree.specs.declared.node.Node.{Node}
-use Rattle.tree.specs.Node.{plusZero, one, visitsMost}
-use Rattle.laws.specs.Floats.{float}
+use Rattle.tree.specs.Node.{plusZero, visitsMost}
+use Rattle.laws.specs.Floats.{float, one}
 
 -- record 0 has parent 0 and action 31; others have their parent below their own number, and an action up to 30
 abbrev pub placed : ℕ → ℕ → ℕ → Bool

@@ -1,16 +1,16 @@
--- The tree: a lent run of records and a count of those used. Its soundness, insertion, children, back-propagation and `solution`, as document 01 has them.
+-- Document 01, Tree: "a lent run of records: .., with a count of those used". Its soundness; insertion, which "takes record number count"; children, which
+-- "come in record order"; `backpropagate`, which "goes from start up to target"; and `solution`, which "follows from 0 the child of greatest max_score,
+-- the last of equals, and answers the actions and the last node".
 -- Assumes nothing.
 use mathlib.Core.Bool.{Bool, true, false, not, cond, _&&_, _||_}
 use mathlib.Core.List.{List, [], _∷_, _++_, map}
-use Prim.Native.Nat.{ℕ, zero, suc}
+use Prim.Native.Nat.{ℕ, zero, suc, _<_}
 use lib.Dec.{eqb, leb}
-use lib.Ieee.{Float}
+use lib.Ieee.{Float, lt, eq}
 use lib.ListN.{length, getD, set}
 use Rattle.tree.specs.declared.node.Node.{Node}
-use Rattle.tree.specs.declared.best.Best.{Best}
 use Rattle.tree.specs.Node.{nodeOf, rootNode, isFull, touchedOf}
 use Rattle.tree.specs.Sound.{soundAt}
-use Rattle.tree.specs.Best.{isChild, noBest, pickOf}
 
 -- what `getD` answers past the end
 abbrev pub noNode : Node
@@ -38,11 +38,19 @@ insertedOf nodes count parent action = set nodes count (nodeOf parent action)
 
 -- ---- children, in record order
 
+-- record k is a child of a parent; record 0 is nobody's
+abbrev pub isChild : ℕ → Node → ℕ → Bool
+isChild k n parent = not (eqb k 0) && eqb (n .parent) parent
+
 unfoldable pub childrenOf : ℕ → List Node → ℕ → List ℕ
 childrenOf zero nodes parent = []
 childrenOf (suc k) nodes parent = childrenOf k nodes parent ++ cond (isChild k (nodeAt nodes k) parent) (k ∷ []) []
 
 -- ---- the way up: a parent is below its child, so from record k on k steps reach record 0
+
+-- so it is of each record below count
+abbrev pub Falls : List Node → ℕ → Type 0
+Falls nodes count = (k : ℕ) → 0 < k → k < count → nodeAt nodes k .parent < k
 
 -- target is record k or above it
 unfoldable pub aboveIn : ℕ → List Node → ℕ → ℕ → Bool
@@ -78,10 +86,23 @@ backOf nodes start target score = touchedAll nodes (pathOf nodes start target) s
 
 -- ---- `solution`: from record 0 on the best child, until there is none
 
--- the best child among the first records
-unfoldable pub bestTo : ℕ → List Node → ℕ → Best
-bestTo zero nodes parent = noBest
-bestTo (suc k) nodes parent = pickOf (bestTo k nodes parent) k (nodeAt nodes k) parent
+-- child j gives way to child k: a smaller max_score, or the same and not a later record
+abbrev pub yields : List Node → ℕ → ℕ → Bool
+yields nodes k j = lt (nodeAt nodes j .«max_score») (nodeAt nodes k .«max_score») || (eq (nodeAt nodes j .«max_score») (nodeAt nodes k .«max_score») && leb j k)
+
+-- each of these does
+unfoldable pub allYield : List Node → ℕ → List ℕ → Bool
+allYield nodes k [] = true
+allYield nodes k (j ∷ rest) = yields nodes k j && allYield nodes k rest
+
+-- the one to which all give way; 0 where there is none, since record 0 is no child
+unfoldable pub bestIn : List Node → List ℕ → List ℕ → ℕ
+bestIn nodes all [] = 0
+bestIn nodes all (k ∷ rest) = cond (allYield nodes k all) k (bestIn nodes all rest)
+
+-- the child of greatest max_score, the last of equals
+abbrev pub bestOf : ℕ → List Node → ℕ → ℕ
+bestOf count nodes parent = bestIn nodes (childrenOf count nodes parent) (childrenOf count nodes parent)
 
 -- 0 is no child
 abbrev pub onward : ℕ → (ℕ → List ℕ) → List ℕ
@@ -91,7 +112,7 @@ onward (suc k) rest = suc k ∷ rest (suc k)
 -- the records below record k that `solution` takes; a child is above its parent, so count steps reach the last
 unfoldable pub descentIn : ℕ → List Node → ℕ → ℕ → List ℕ
 descentIn zero nodes count k = []
-descentIn (suc steps) nodes count k = onward (bestTo count nodes k .at) (descentIn steps nodes count)
+descentIn (suc steps) nodes count k = onward (bestOf count nodes k) (descentIn steps nodes count)
 
 abbrev pub descentOf : List Node → ℕ → ℕ → List ℕ
 descentOf nodes count k = descentIn count nodes count k

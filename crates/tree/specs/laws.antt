@@ -3,10 +3,11 @@ pub mod Node
 pub mod Tree
 pub mod Climb
 pub mod Back
+pub mod Children
+pub mod Best
 pub mod Solution
 pub mod Descent
-pub mod Best
-pub mod Children
+pub mod Steps
 pub mod Grow
 pub mod Paths
 pub mod Kept

@@ -1,6 +1,7 @@
 // The child that `solution` takes, found in one walk over the records.
 ghost use mathlib.Core.Path.{_≡_};
-ghost use Rattle.tree.specs.Best.{isChild, noBest, isBetter, pickOf};
+ghost use Rattle.tree.specs.Tree.{isChild};
+ghost use Rattle.tree.specs.inner.Best.{noBest, isBetter, pickOf};
 use super::node::Node;
 
 // The best child so far; 0 where there is none, since record 0 is no child.

@@ -3,7 +3,7 @@ ghost use mathlib.Core.Path.{_≡_};
 ghost use Prim.Native.Nat.{_≤_};
 ghost use lib.ListN.{length};
 ghost use Rattle.text.specs.Over.{over};
-ghost use Rattle.tree.specs.Tree.{bestTo, solutionOf, endOf};
+ghost use Rattle.tree.specs.Tree.{bestOf, solutionOf, endOf};
 ghost use Rattle.tree.specs.laws.Tree.{SoundTree};
 use super::best::Best;
 use super::best::pick;
@@ -12,8 +12,8 @@ use super::records::node_at;
 use text::put_byte;
 
 pub fn best_child(nodes: &[Node], count: usize, parent: usize) -> Best
-    requires { ⌜ count ≤ length (now nodes) ⌝ }
-    ensures { λ r. ⌜ r ≡ bestTo count (now (nodes .entry)) parent ⌝ }
+    requires { ⌜ SoundTree (now nodes) count ⌝ }
+    ensures { λ r. ⌜ r .at ≡ bestOf count (now (nodes .entry)) parent ⌝ }
 {
     let mut best = Best::none();
     let mut i = 0;

@@ -18,9 +18,10 @@ use Rattle.tree.specs.declared.paths.Solved.the-variants as S
 use Rattle.tree.specs.Grow.{planted, inserted, Plants, Inserts}
 use Rattle.tree.specs.Back.{propagated, Propagates}
 use Rattle.tree.specs.Paths.{listed, solved, Lists, Solves}
-use Rattle.crafty_c.specs.Answer.{reportIn, report-in, answered}
-use Rattle.crafty_c.specs.laws.Answer.{says-told}
-use Rattle.crafty_c.specs.Trees.{plantedAnswer, insertedAnswer, propagatedAnswer, listedAnswer, solvedAnswer, solutionAnswered, TellsPlanted, TellsInserted, TellsPropagated, TellsListed, TellsSolved}
+use Rattle.crafty_c.specs.Answer.{reportIn, answered}
+use Rattle.crafty_c.specs.laws.Answer.{report-in, says-told}
+use Rattle.crafty_c.specs.Trees.{plantedAnswer, insertedAnswer, propagatedAnswer, listedAnswer, solvedAnswer, solutionAnswered}
+use Rattle.crafty_c.specs.Trees.{TellsPlanted, TellsInserted, TellsPropagated, TellsListed, TellsSolved}
 
 planted-number : (r : Planted) → reportIn (plantedAnswer r) ≡ planted .told r
 planted-number (P.Count count) = refl
@@ -33,27 +34,33 @@ inserted-number : (r : Inserted) → reportIn (insertedAnswer r) ≡ inserted .t
 inserted-number (I.At number count) = refl
 inserted-number (I.Refused x) = report-in x
 
-pub inserted-told : (nodes : List Node) (count parent action : ℕ) {r : Inserted} {after : List Node} → Inserts nodes count parent action r after → TellsInserted nodes count parent action (insertedAnswer r) after
-inserted-told nodes count parent action w = record { says = says-told answered inserted insertedAnswer (λ x. refl) inserted-number (w .says); records = w .records }
+pub inserted-told : (nodes : List Node) (count parent action : ℕ) {r : Inserted} {after : List Node} → Inserts nodes count parent action r after
+    → TellsInserted nodes count parent action (insertedAnswer r) after
+inserted-told nodes count parent action w =
+    record { says = says-told answered inserted insertedAnswer (λ x. refl) inserted-number (w .says); records = w .records }
 
 propagated-number : (r : Propagated) → reportIn (propagatedAnswer r) ≡ propagated .told r
 propagated-number B.Done = refl
 propagated-number (B.Refused x) = report-in x
 
-pub propagated-told : (nodes : List Node) (count start target : ℕ) (score : Float) {r : Propagated} {after : List Node} → Propagates nodes count start target score r after
+pub propagated-told : (nodes : List Node) (count start target : ℕ) (score : Float) {r : Propagated} {after : List Node}
+    → Propagates nodes count start target score r after
     → TellsPropagated nodes count start target score (propagatedAnswer r) after
-propagated-told nodes count start target score w = record { says = says-told answered propagated propagatedAnswer (λ x. refl) propagated-number (w .says); records = w .records }
+propagated-told nodes count start target score w =
+    record { says = says-told answered propagated propagatedAnswer (λ x. refl) propagated-number (w .says); records = w .records }
 
 listed-number : (r : Offspring) → reportIn (listedAnswer r) ≡ listed .told r
 listed-number (L.Children len) = refl
 listed-number (L.Refused x) = report-in x
 
-pub listed-told : (nodes : List Node) (count node : ℕ) (out : List ℕ) {r : Offspring} {after : List ℕ} → Lists nodes count node out r after → TellsListed nodes count node out (listedAnswer r) after
+pub listed-told : (nodes : List Node) (count node : ℕ) (out : List ℕ) {r : Offspring} {after : List ℕ} → Lists nodes count node out r after
+    → TellsListed nodes count node out (listedAnswer r) after
 listed-told nodes count node out w = record { says = says-told answered listed listedAnswer (λ x. refl) listed-number (w .says); room = w .room }
 
 solved-number : (r : Solved) → solutionAnswered .told (solvedAnswer r) ≡ solved .told r
 solved-number (S.Solution len last) = refl
 solved-number (S.Refused x) = report-in x
 
-pub solved-told : (nodes : List Node) (count : ℕ) (out : List ℕ) {r : Solved} {after : List ℕ} → Solves nodes count out r after → TellsSolved nodes count out (solvedAnswer r) after
+pub solved-told : (nodes : List Node) (count : ℕ) (out : List ℕ) {r : Solved} {after : List ℕ} → Solves nodes count out r after
+    → TellsSolved nodes count out (solvedAnswer r) after
 solved-told nodes count out w = record { says = says-told solutionAnswered solved solvedAnswer (λ x. refl) solved-number (w .says); room = w .room }

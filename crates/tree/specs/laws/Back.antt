@@ -18,8 +18,8 @@ use Rattle.tree.specs.declared.node.Node.{Node}
 use Rattle.tree.specs.Node.{isScore, isFull, touchedOf}
 use Rattle.tree.specs.Sound.{soundAt}
 use Rattle.tree.specs.laws.Node.{touched-differs, touched-sound}
-use Rattle.tree.specs.Tree.{noNode, nodeAt, pathOf, anyFull, touchedAt, touchedAll, backOf}
-use Rattle.tree.specs.laws.Tree.{SoundTree, Falls, tree-falls}
+use Rattle.tree.specs.Tree.{noNode, nodeAt, Falls, pathOf, anyFull, touchedAt, touchedAll, backOf}
+use Rattle.tree.specs.laws.Tree.{SoundTree, tree-falls}
 use Rattle.tree.specs.laws.Climb.{Falling, path-here, path-up, path-falling, path-touched}
 
 -- ---- a visit of each record on a path whose numbers fall
@@ -53,11 +53,13 @@ touched-each nodes (k ∷ path) score m f room j =
     go (eqb j k) refl (touched-each (touchedAt nodes k score) path score k (f .1) (rw length-set (omega (arith, f .0))) j)
   where
     go : (t : Bool) → eqb j k ≡ t
-        → nodeAt (touchedAll (touchedAt nodes k score) path score) j ≡ cond (elem path j) (touchedOf (nodeAt (touchedAt nodes k score) j) score) (nodeAt (touchedAt nodes k score) j)
+        → nodeAt (touchedAll (touchedAt nodes k score) path score) j
+        ≡ cond (elem path j) (touchedOf (nodeAt (touchedAt nodes k score) j) score) (nodeAt (touchedAt nodes k score) j)
         → nodeAt (touchedAll (touchedAt nodes k score) path score) j ≡ cond (t || elem path j) (touchedOf (nodeAt nodes j) score) (nodeAt nodes j)
     go true q rest =
         rw (eqb-true j k q)
-        (past (touchedAt nodes k score) path score k k (f .1) (le-refl k) ∙ getD-set-same nodes k (touchedOf (nodeAt nodes k) score) noNode (omega (arith, f .0)))
+        (past (touchedAt nodes k score) path score k k (f .1) (le-refl k)
+        ∙ getD-set-same nodes k (touchedOf (nodeAt nodes k) score) noNode (omega (arith, f .0)))
     go false q rest = rw (getD-set-other nodes k j (touchedOf (nodeAt nodes k) score) noNode (eqb-false j k q)) at rest
 
 none-full : (nodes : List Node) (path : List ℕ) (j : ℕ) → anyFull nodes path ≡ false → elem path j ≡ true → isFull (nodeAt nodes j) ≡ false
@@ -67,7 +69,8 @@ none-full nodes (k ∷ path) j e is =
     let parts = neither (isFull (nodeAt nodes k)) _ e in
     go (eqb j k) refl (parts .0) is (none-full nodes path j (parts .1))
   where
-    go : (t : Bool) → eqb j k ≡ t → isFull (nodeAt nodes k) ≡ false → t || elem path j ≡ true → (elem path j ≡ true → isFull (nodeAt nodes j) ≡ false) → isFull (nodeAt nodes j) ≡ false
+    go : (t : Bool) → eqb j k ≡ t → isFull (nodeAt nodes k) ≡ false → t || elem path j ≡ true → (elem path j ≡ true → isFull (nodeAt nodes j) ≡ false)
+        → isFull (nodeAt nodes j) ≡ false
     go true q here is rest = rw (eqb-true j k q) here
     go false q here is rest = rest is
 
@@ -78,7 +81,8 @@ module _ (nodes : List Node) (count start target : ℕ) (score : Float) (tree : 
   falling = path-falling nodes count target (tree-falls tree) start start count inside inside
 
   -- every record, used or not
-  back-each : (j : ℕ) → nodeAt (backOf nodes start target score) j ≡ cond (elem (pathOf nodes start target) j) (touchedOf (nodeAt nodes j) score) (nodeAt nodes j)
+  back-each : (j : ℕ)
+      → nodeAt (backOf nodes start target score) j ≡ cond (elem (pathOf nodes start target) j) (touchedOf (nodeAt nodes j) score) (nodeAt nodes j)
   back-each = touched-each nodes (pathOf nodes start target) score count falling (tree .room)
 
   -- one on the path is touched
@@ -99,7 +103,8 @@ module _ (nodes : List Node) (count start target : ℕ) (score : Float) (tree : 
         touched-differs j (nodeAt nodes j) score (tree .each j (falling-below _ count j falling e)) (none-full nodes _ j room e) (sym (back-on j e) ∙ same)
 
     pub back-sound : isScore score ≡ true → SoundTree (backOf nodes start target score) count
-    back-sound is = record { some = tree .some; room = rw back-length (tree .room); each = λ k h. ⊎-elim (on k h) (off k h) (either (elem (pathOf nodes start target) k)) }
+    back-sound is =
+        record { some = tree .some; room = rw back-length (tree .room); each = λ k h. ⊎-elim (on k h) (off k h) (either (elem (pathOf nodes start target) k)) }
       where
         on : (k : ℕ) → k < count → elem (pathOf nodes start target) k ≡ true → soundAt k (nodeAt (backOf nodes start target score) k) ≡ true
         on k h e = rw (back-on k e) (touched-sound k (nodeAt nodes k) score (tree .each k h) (none-full nodes _ k room e) is)
@@ -114,7 +119,8 @@ module _ (nodes : List Node) (count target : ℕ) (falls : Falls nodes count) wh
   unfolding touchedAll
   back-here score = rw (path-here nodes count target falls)
 
-  pub back-up : (k : ℕ) (score : Float) → target < k → k < count → backOf nodes k target score ≡ backOf (touchedAt nodes k score) (nodeAt nodes k .parent) target score
+  pub back-up : (k : ℕ) (score : Float) → target < k → k < count
+      → backOf nodes k target score ≡ backOf (touchedAt nodes k score) (nodeAt nodes k .parent) target score
   unfolding touchedAll
   back-up k score l h = rw (path-up nodes count target falls k l h, path-touched nodes k score target (nodeAt nodes k .parent) (nodeAt nodes k .parent))
 
@@ -122,6 +128,7 @@ module _ (nodes : List Node) (count target : ℕ) (falls : Falls nodes count) wh
   unfolding anyFull
   full-here = rw (path-here nodes count target falls) (or-false (isFull (nodeAt nodes target)))
 
-  pub full-up : (k : ℕ) → target < k → k < count → anyFull nodes (pathOf nodes k target) ≡ isFull (nodeAt nodes k) || anyFull nodes (pathOf nodes (nodeAt nodes k .parent) target)
+  pub full-up : (k : ℕ) → target < k → k < count
+      → anyFull nodes (pathOf nodes k target) ≡ isFull (nodeAt nodes k) || anyFull nodes (pathOf nodes (nodeAt nodes k .parent) target)
   unfolding anyFull
   full-up k l h = rw (path-up nodes count target falls k l h)

@@ -1,30 +1,34 @@
--- The best child of a sound tree: none has a greater max_score, and none after it has the same. Children are listed each, and in order.
+-- The best child of a sound tree. The walk over the records (crates/tree/specs/inner/Best.antt) comes to the child of document 01's rule;
+-- where there is a child there is one to which all give way, and no second.
 -- Assumes nothing.
 use mathlib.Core.Path.{_≡_, refl, sym, _∙_}
-use mathlib.Core.Bool.{Bool, true, false, not, cond, _&&_}
-use mathlib.Core.List.{List}
+use mathlib.Core.Bool.{Bool, true, false, not, cond, _&&_, _||_}
+use mathlib.Core.List.{List, [], _∷_}
 use mathlib.Core.Logic.{_⊎_, inl, inr}
-use Prim.Native.Nat.{ℕ, zero, suc, _*_, _≤_, _<_}
+use Prim.Native.Nat.{ℕ, zero, suc, _+_, _*_, _≤_, _<_}
 use native.Mathlib.Nat.{le-refl, le-of-lt}
+use native.Mathlib.Numerals.{add-one}
 use native.Mathlib.Omega.{arith}
-use lib.Dec.{T, leb, eqb}
-use lib.Ieee.{Float, nan, inf, fin, up, down, lt, eq, le, ofBits}
+use lib.Dec.{T, leb, eqb, ltb}
+use lib.Ieee.{Float, nan, inf, fin, up, down, lt, eq, le, ofInt}
 use lib.Ieee.Bits.{is-true}
 use lib.Ieee.Fits.{down-pos}
 use lib.Ieee.Positive.{through}
-use borrow.Author.Tests.{leb-true, leb-false, eqb-false, ne-eqb, not-true}
-use Rattle.laws.specs.laws.Tests.{true-false, both, neither}
+use borrow.Author.Tests.{leb-true, leb-false, le-leb, ltb-true, ltb-false, lt-ltb, eqb-true, eqb-false, eq-eqb, ne-eqb, not-true}
+use Rattle.laws.specs.Floats.{one}
+use Rattle.laws.specs.Lists.{elem}
+use Rattle.laws.specs.laws.Tests.{true-false, both, neither, and-both, and-true, or-true}
 use Rattle.laws.specs.laws.Small.{or-le}
 use Rattle.tree.specs.declared.node.Node.{Node}
 use Rattle.tree.specs.declared.best.Best.{Best}
-use Rattle.tree.specs.Node.{plusZero, one}
+use Rattle.tree.specs.Node.{plusZero}
 use Rattle.tree.specs.Sound.{isMaximum}
-use Rattle.tree.specs.Best.{isChild, isBetter, pickOf}
+use Rattle.tree.specs.Tree.{nodeAt, isChild, childrenOf, yields, allYield, bestIn, bestOf}
+use Rattle.tree.specs.inner.Best.{noBest, isBetter, pickOf, bestTo}
 use Rattle.tree.specs.laws.Float.{at-most}
-use Rattle.tree.specs.laws.Node.{holds}
-use Rattle.tree.specs.Tree.{nodeAt, bestTo}
-use Rattle.tree.specs.laws.Tree.{last-or-below}
-use Rattle.tree.specs.laws.Solution.{taken, best-child}
+use Rattle.tree.specs.laws.Node.{holds, sound-parts}
+use Rattle.tree.specs.laws.Tree.{SoundTree, last-or-below}
+use Rattle.tree.specs.laws.Children.{children-each}
 
 -- ---- maxima are in one order
 
@@ -35,7 +39,7 @@ Ordinary (fin true m e) = ⊥
 Ordinary (fin false m e) = Unit {0}
 
 ordinary : (x : Float) → isMaximum x ≡ true → Ordinary x
-unfolding isMaximum le lt eq ofBits
+unfolding isMaximum le lt eq ofInt
 ordinary nan e = true-false (sym e)
 ordinary (inf true) e = true-false (sym e)
 ordinary (inf false) e = true-false (sym e)
@@ -59,6 +63,42 @@ le-total (fin false m e) (fin false n d) a b h = at-most _ _ (go (leb (m * up e 
     go true q = absurd (true-false (sym (is-true (le (fin false m e) (fin false n d)) (at-most (m * up e * down d) (n * up d * down e) (leb-true _ _ q))) ∙ h))
     go false q = le-of-lt (leb-false _ _ q)
 
+-- ---- record by record, for the loop that finds the best child
+
+pub best-none : (nodes : List Node) (parent : ℕ) → noBest ≡ bestTo 0 nodes parent
+unfolding bestTo
+best-none nodes parent = refl
+
+pub best-next : (k : ℕ) (nodes : List Node) (parent : ℕ) → pickOf (bestTo k nodes parent) k (nodeAt nodes k) parent ≡ bestTo (k + 1) nodes parent
+unfolding bestTo
+best-next k nodes parent = rw add-one
+
+pub child-parent : (k : ℕ) (n : Node) (parent : ℕ) → isChild k n parent ≡ true → n .parent ≡ parent
+child-parent k n parent e = eqb-true (n .parent) parent (both (not (eqb k 0)) _ e .1)
+
+-- ---- a best child is a child among those records, with its max_score
+
+pub record IsChild (m : ℕ) (nodes : List Node) (parent : ℕ) (best : Best) : Type 0 where
+  pub below : best .at < m
+  pub child : isChild (best .at) (nodeAt nodes (best .at)) parent ≡ true
+  pub score : best .«max_score» ≡ nodeAt nodes (best .at) .«max_score»
+
+abbrev pub taken : ℕ → Node → Best
+taken k n = record { at = k; «max_score» = n .«max_score» }
+
+pub best-child : (m : ℕ) (nodes : List Node) (parent : ℕ) → 0 < bestTo m nodes parent .at → IsChild m nodes parent (bestTo m nodes parent)
+unfolding bestTo pickOf
+best-child zero nodes parent some = absurd (omega arith)
+best-child (suc m) nodes parent some =
+    go (isChild m (nodeAt nodes m) parent && isBetter (bestTo m nodes parent) (nodeAt nodes m)) refl (best-child m nodes parent) some
+  where
+    go : (t : Bool) → isChild m (nodeAt nodes m) parent && isBetter (bestTo m nodes parent) (nodeAt nodes m) ≡ t
+        → (0 < bestTo m nodes parent .at → IsChild m nodes parent (bestTo m nodes parent))
+        → 0 < cond t (taken m (nodeAt nodes m)) (bestTo m nodes parent) .at
+        → IsChild (suc m) nodes parent (cond t (taken m (nodeAt nodes m)) (bestTo m nodes parent))
+    go true e rest some = record { below = omega arith; child = both _ _ e .0; score = refl }
+    go false e rest some = let r = rest some in record { below = omega (arith, r .below); child = r .child; score = r .score }
+
 -- ---- the best child among the first records
 
 child-some : (k : ℕ) (n : Node) (parent : ℕ) → isChild k n parent ≡ true → 0 < k
@@ -81,7 +121,8 @@ module _ (nodes : List Node) (parent : ℕ) where
   takes m = isChild m (nodeAt nodes m) parent && isBetter (bestTo m nodes parent) (nodeAt nodes m)
 
   -- a child that is not taken is worse than the one found before it
-  worse : (m : ℕ) → Child m → takes m ≡ false → (0 < bestTo m nodes parent .at) × (le (bestTo m nodes parent .«max_score») (nodeAt nodes m .«max_score») ≡ false)
+  worse : (m : ℕ) → Child m → takes m ≡ false
+      → (0 < bestTo m nodes parent .at) × (le (bestTo m nodes parent .«max_score») (nodeAt nodes m .«max_score») ≡ false)
   worse m is e = no-better (bestTo m nodes parent) (nodeAt nodes m) (rw is at e)
 
   -- where there is a child, one is found
@@ -90,7 +131,8 @@ module _ (nodes : List Node) (parent : ℕ) where
   best-found zero k h is = absurd (omega arith)
   best-found (suc m) k h is = go (takes m) refl (last-or-below k m h) (λ l. best-found m k l is)
     where
-      go : (t : Bool) → takes m ≡ t → (k ≡ m) ⊎ (k < m) → (k < m → 0 < bestTo m nodes parent .at) → 0 < cond t (taken m (nodeAt nodes m)) (bestTo m nodes parent) .at
+      go : (t : Bool) → takes m ≡ t → (k ≡ m) ⊎ (k < m) → (k < m → 0 < bestTo m nodes parent .at)
+          → 0 < cond t (taken m (nodeAt nodes m)) (bestTo m nodes parent) .at
       go true e w rest = child-some m (nodeAt nodes m) parent (both _ _ e .0)
       go false e (inl q) rest = worse m (rw q at is) e .0
       go false e (inr l) rest = rest l
@@ -101,7 +143,8 @@ module _ (nodes : List Node) (parent : ℕ) where
   best-last zero k h is l = absurd (omega arith)
   best-last (suc m) k h is l = go (takes m) refl (last-or-below k m h) (λ b. best-last m k b is) l
     where
-      go : (t : Bool) → takes m ≡ t → (k ≡ m) ⊎ (k < m) → (k < m → bestTo m nodes parent .at < k → le (bestTo m nodes parent .«max_score») (nodeAt nodes k .«max_score») ≡ false)
+      go : (t : Bool) → takes m ≡ t → (k ≡ m) ⊎ (k < m)
+          → (k < m → bestTo m nodes parent .at < k → le (bestTo m nodes parent .«max_score») (nodeAt nodes k .«max_score») ≡ false)
           → cond t (taken m (nodeAt nodes m)) (bestTo m nodes parent) .at < k
           → le (cond t (taken m (nodeAt nodes m)) (bestTo m nodes parent) .«max_score») (nodeAt nodes k .«max_score») ≡ false
       go true e w rest l = absurd (omega arith)
@@ -109,7 +152,8 @@ module _ (nodes : List Node) (parent : ℕ) where
       go false e (inr b) rest l = rest b l
 
   -- the greatest: no child has a greater max_score
-  pub best-greatest : (m : ℕ) → ((k : ℕ) → k < m → isMaximum (nodeAt nodes k .«max_score») ≡ true) → (k : ℕ) → k < m → Child k → T (le (nodeAt nodes k .«max_score») (bestTo m nodes parent .«max_score»))
+  pub best-greatest : (m : ℕ) → ((k : ℕ) → k < m → isMaximum (nodeAt nodes k .«max_score») ≡ true) → (k : ℕ) → k < m → Child k
+      → T (le (nodeAt nodes k .«max_score») (bestTo m nodes parent .«max_score»))
   unfolding bestTo pickOf
   best-greatest zero each k h is = absurd (omega arith)
   best-greatest (suc m) each k h is = go (takes m) refl (last-or-below k m h) (λ l. best-greatest m (λ j b. each j (omega arith)) k l is)
@@ -122,9 +166,178 @@ module _ (nodes : List Node) (parent : ℕ) where
       go true e (inl q) rest = rw q (le-self (nodeAt nodes m .«max_score») (ordinary _ (each m (omega arith))))
       go true e (inr l) rest =
           let some : 0 < bestTo m nodes parent .at = best-found m k l is in
-          le-trans (nodeAt nodes k .«max_score») (bestTo m nodes parent .«max_score») (nodeAt nodes m .«max_score») (ordinary _ (each k h)) (found some) (ordinary _ (each m (omega arith)))
+          le-trans (nodeAt nodes k .«max_score») (bestTo m nodes parent .«max_score») (nodeAt nodes m .«max_score»)
+          (ordinary _ (each k h)) (found some) (ordinary _ (each m (omega arith)))
           (rest l) (holds (better-by (bestTo m nodes parent) (nodeAt nodes m) some (both (isChild m (nodeAt nodes m) parent) _ e .1)))
       go false e (inl q) rest =
           let parts = worse m (rw q at is) e in
           rw q (le-total (bestTo m nodes parent .«max_score») (nodeAt nodes m .«max_score») (found (parts .0)) (ordinary _ (each m (omega arith))) (parts .1))
       go false e (inr l) rest = rest l
+
+-- ---- of two children one gives way
+
+-- as `yields` compares magnitudes
+one-way : (a b j k : ℕ) → ltb a b || ((eqb a b && true) && leb j k) ≡ true → ltb b a || ((eqb b a && true) && leb k j) ≡ true → j ≡ k
+one-way a b j k h i = go (ltb a b) refl (ltb b a) refl h i
+  where
+    level : (x y m n : ℕ) → (eqb x y && true) && leb m n ≡ true → (x ≡ y) × (m ≤ n)
+    level x y m n e = let parts = both (eqb x y && true) _ e in (eqb-true x y (both (eqb x y) _ (parts .0) .0), leb-true m n (parts .1))
+
+    go : (l : Bool) → ltb a b ≡ l → (g : Bool) → ltb b a ≡ g → l || ((eqb a b && true) && leb j k) ≡ true → g || ((eqb b a && true) && leb k j) ≡ true → j ≡ k
+    go true p true q h i = absurd (omega (arith, ltb-true a b p, ltb-true b a q))
+    go true p false q h i = absurd (omega (arith, ltb-true a b p, level b a k j i .0))
+    go false p true q h i = absurd (omega (arith, ltb-true b a q, level a b j k h .0))
+    go false p false q h i = omega (arith, level a b j k h .1, level b a k j i .1)
+
+module _ (x y : Float) (j k : ℕ) where
+  yields-both : Ordinary x → Ordinary y → lt x y || (eq x y && leb j k) ≡ true → lt y x || (eq y x && leb k j) ≡ true → j ≡ k
+  unfolding lt eq
+  yields-both a b h i = go x y a b h i
+    where
+      go : (x y : Float) → Ordinary x → Ordinary y → lt x y || (eq x y && leb j k) ≡ true → lt y x || (eq y x && leb k j) ≡ true → j ≡ k
+      go (fin false m e) (fin false n d) a b h i = one-way (m * up e * down d) (n * up d * down e) j k h i
+
+  -- not a later record, and no greater max_score
+  yields-before : j ≤ k → T (le x y) → lt x y || (eq x y && leb j k) ≡ true
+  unfolding le
+  yields-before h l = rw (le-leb j k h, and-true) (is-true (lt x y || eq x y) l)
+
+  -- a smaller max_score
+  yields-less : Ordinary x → Ordinary y → le y x ≡ false → lt x y || (eq x y && leb j k) ≡ true
+  unfolding le lt eq
+  yields-less a b h = go x y a b h
+    where
+      go : (x y : Float) → Ordinary x → Ordinary y → le y x ≡ false → lt x y || (eq x y && leb j k) ≡ true
+      go (fin false m e) (fin false n d) a b h =
+          let parts = neither (ltb (n * up d * down e) (m * up e * down d)) _ h in
+          let other : n * up d * down e ≡ m * up e * down d → ⊥ = eqb-false _ _ (sym (and-true _) ∙ parts .1) in
+          rw (lt-ltb (m * up e * down d) (n * up d * down e) (omega (arith, ltb-false (n * up d * down e) (m * up e * down d) (parts .0))))
+
+-- ---- the one of a list to which all give way
+
+module _ (nodes : List Node) (k : ℕ) where
+  all-yield : (js : List ℕ) → ((j : ℕ) → elem js j ≡ true → yields nodes k j ≡ true) → allYield nodes k js ≡ true
+  unfolding allYield elem
+  all-yield [] each = refl
+  all-yield (i ∷ rest) each = and-both (each i (rw (eq-eqb i i refl))) (all-yield rest (λ j e. each j (rw e (or-true (eqb j i)))))
+
+  yield-each : (js : List ℕ) → allYield nodes k js ≡ true → (j : ℕ) → elem js j ≡ true → yields nodes k j ≡ true
+  unfolding allYield elem
+  yield-each [] e j is = absurd (true-false (sym is))
+  yield-each (i ∷ rest) e j is = let parts = both (yields nodes k i) _ e in go (eqb j i) refl (parts .0) is (yield-each rest (parts .1) j)
+    where
+      go : (t : Bool) → eqb j i ≡ t → yields nodes k i ≡ true → t || elem rest j ≡ true → (elem rest j ≡ true → yields nodes k j ≡ true)
+          → yields nodes k j ≡ true
+      go true q here is later = rw (eqb-true j i q) here
+      go false q here is later = later is
+
+module _ (nodes : List Node) (all : List ℕ) where
+  abbrev First : ℕ → Type 0
+  First k = allYield nodes k all ≡ true
+
+  in-found : (rest : List ℕ) → 0 < bestIn nodes all rest → (elem rest (bestIn nodes all rest) ≡ true) × First (bestIn nodes all rest)
+  unfolding bestIn elem
+  in-found [] some = absurd (omega arith)
+  in-found (k ∷ rest) some = go (allYield nodes k all) refl (in-found rest) some
+    where
+      go : (t : Bool) → allYield nodes k all ≡ t → (0 < bestIn nodes all rest → (elem rest (bestIn nodes all rest) ≡ true) × First (bestIn nodes all rest))
+          → 0 < cond t k (bestIn nodes all rest)
+          → (eqb (cond t k (bestIn nodes all rest)) k || elem rest (cond t k (bestIn nodes all rest)) ≡ true) × First (cond t k (bestIn nodes all rest))
+      go true q later some = (rw (eq-eqb k k refl), q)
+      go false q later some = let f = later some in (rw (f .0) (or-true (eqb (bestIn nodes all rest) k)), f .1)
+
+  in-only : (k : ℕ) → First k → (rest : List ℕ) → elem rest k ≡ true → ((j : ℕ) → elem rest j ≡ true → First j → j ≡ k) → bestIn nodes all rest ≡ k
+  unfolding bestIn elem
+  in-only k first [] is only = absurd (true-false (sym is))
+  in-only k first (i ∷ rest) is only =
+      go (allYield nodes i all) refl (eqb k i) refl is (only i (rw (eq-eqb i i refl))) (λ e. in-only k first rest e (λ j f. only j (rw f (or-true (eqb j i)))))
+    where
+      go : (t : Bool) → allYield nodes i all ≡ t → (u : Bool) → eqb k i ≡ u → u || elem rest k ≡ true → (First i → i ≡ k)
+          → (elem rest k ≡ true → bestIn nodes all rest ≡ k)
+          → cond t i (bestIn nodes all rest) ≡ k
+      go true q u p is here later = here q
+      go false q true p is here later = absurd (true-false (sym first ∙ rw (eqb-true k i p) q))
+      go false q false p is here later = later is
+
+empty : (l : List ℕ) → ((k : ℕ) → elem l k ≡ true → ⊥) → l ≡ []
+unfolding elem
+empty [] none = refl
+empty (k ∷ l) none = absurd (none k (rw (eq-eqb k k refl)))
+
+-- ---- the best child is a child
+
+module _ (nodes : List Node) (count parent : ℕ) where
+  listed : (k : ℕ) → elem (childrenOf count nodes parent) k ≡ true → (k < count) × Child nodes parent k
+  listed k e = let parts = both (ltb k count) _ (sym (children-each nodes parent count k) ∙ e) in (ltb-true k count (parts .0), parts .1)
+
+  lists : (k : ℕ) → k < count → Child nodes parent k → elem (childrenOf count nodes parent) k ≡ true
+  lists k h is = children-each nodes parent count k ∙ and-both (lt-ltb k count h) is
+
+  pub best-listed : 0 < bestOf count nodes parent → (bestOf count nodes parent < count) × Child nodes parent (bestOf count nodes parent)
+  best-listed some = listed _ (in-found nodes _ (childrenOf count nodes parent) some .0)
+
+-- ---- THE theorems of the best child
+
+module _ (nodes : List Node) (count : ℕ) (tree : SoundTree nodes count) (parent : ℕ) where
+  abbrev children : List ℕ
+  children = childrenOf count nodes parent
+
+  abbrev walked : Best
+  walked = bestTo count nodes parent
+
+  maximum : (k : ℕ) → k < count → isMaximum (nodeAt nodes k .«max_score») ≡ true
+  maximum k h = sound-parts (tree .each k h) .maximum
+
+  in-order : (k : ℕ) → elem children k ≡ true → Ordinary (nodeAt nodes k .«max_score»)
+  in-order k e = ordinary _ (maximum k (listed nodes count parent k e .0))
+
+  -- no two are such that all children give way to them
+  pub best-only : (j k : ℕ) → elem children j ≡ true → elem children k ≡ true → allYield nodes j children ≡ true → allYield nodes k children ≡ true → j ≡ k
+  best-only j k is too f g =
+      yields-both (nodeAt nodes j .«max_score») (nodeAt nodes k .«max_score») j k (in-order j is) (in-order k too)
+      (yield-each nodes k children g j is) (yield-each nodes j children f k too)
+
+  walked-child : 0 < walked .at → elem children (walked .at) ≡ true
+  walked-child some = let c = best-child count nodes parent some in lists nodes count parent (walked .at) (c .below) (c .child)
+
+  -- all give way to the child that the walk finds
+  walked-first : 0 < walked .at → allYield nodes (walked .at) children ≡ true
+  walked-first some = all-yield nodes (walked .at) children (λ j is. go j is (leb j (walked .at)) refl)
+    where
+      go : (j : ℕ) → elem children j ≡ true → (t : Bool) → leb j (walked .at) ≡ t → yields nodes (walked .at) j ≡ true
+      go j is true e =
+          let c = best-child count nodes parent some in
+          let l = listed nodes count parent j is in
+          yields-before (nodeAt nodes j .«max_score») _ j (walked .at) (leb-true j (walked .at) e)
+          (rw (c .score) at (best-greatest nodes parent count maximum j (l .0) (l .1)))
+      go j is false e =
+          let c = best-child count nodes parent some in
+          let l = listed nodes count parent j is in
+          yields-less (nodeAt nodes j .«max_score») _ j (walked .at) (in-order j is) (in-order (walked .at) (walked-child some))
+          (rw (c .score) at (best-last nodes parent count j (l .0) (l .1) (leb-false j (walked .at) e)))
+
+  walked-none : walked .at ≡ 0 → children ≡ []
+  walked-none e = empty children (λ k is. let l = listed nodes count parent k is in omega (arith, best-found nodes parent count k (l .0) (l .1)))
+
+  -- the walk over the records comes to the child of the rule, and to 0 where there is no child
+  pub best-rule : walked .at ≡ bestOf count nodes parent
+  unfolding bestIn
+  best-rule = go (eqb (walked .at) 0) refl
+    where
+      go : (t : Bool) → eqb (walked .at) 0 ≡ t → walked .at ≡ bestOf count nodes parent
+      go true e = let none : walked .at ≡ 0 = eqb-true (walked .at) 0 e in rw (walked-none none) none
+      go false e =
+          let other : walked .at ≡ 0 → ⊥ = eqb-false (walked .at) 0 e in
+          let some : 0 < walked .at = omega arith in
+          sym (in-only nodes children (walked .at) (walked-first some) children (walked-child some)
+          (λ j is f. best-only j (walked .at) is (walked-child some) f (walked-first some)))
+
+  -- where there is a child, one is the best: all give way to it
+  pub best-exists : (k : ℕ) → elem children k ≡ true
+      → (elem children (bestOf count nodes parent) ≡ true) × (allYield nodes (bestOf count nodes parent) children ≡ true)
+  best-exists k is =
+      let l = listed nodes count parent k is in
+      in-found nodes children children (rw (← best-rule) (best-found nodes parent count k (l .0) (l .1)))
+
+  pub best-childless : bestOf count nodes parent ≡ 0 → children ≡ []
+  best-childless e = walked-none (best-rule ∙ e)

@@ -14,8 +14,7 @@ use borrow.Author.Tests.{ltb-true, ltb-false, eqb-true, eqb-false, lt-ltb, le-lt
 use Rattle.laws.specs.Lists.{elem}
 use Rattle.laws.specs.laws.Tests.{or-assoc, or-false}
 use Rattle.tree.specs.declared.node.Node.{Node}
-use Rattle.tree.specs.Best.{isChild}
-use Rattle.tree.specs.Tree.{nodeAt, childrenOf}
+use Rattle.tree.specs.Tree.{nodeAt, isChild, childrenOf}
 
 -- ---- membership in a list with one more, or not
 
@@ -69,7 +68,14 @@ module _ (nodes : List Node) (parent : ℕ) where
   pub children-rise : (k m : ℕ) → k ≤ m → length (childrenOf k nodes parent) ≤ length (childrenOf m nodes parent)
   unfolding childrenOf
   children-rise k zero h = let same : k ≡ 0 = omega arith in rw same (omega arith)
-  children-rise k (suc m) h = ⊎-elim (λ q. rw q (omega arith)) (λ l. omega (arith, children-rise k m (omega arith), length-append (childrenOf m nodes parent) (cond (isChild m (nodeAt nodes m) parent) (m ∷ []) []))) (eq-or-lt-of-le h)
+  children-rise k (suc m) h =
+      ⊎-elim (λ q. rw q (omega arith))
+      (λ l. omega (
+        arith,
+        children-rise k m (omega arith),
+        length-append (childrenOf m nodes parent)
+            (cond (isChild m (nodeAt nodes m) parent) (m ∷ []) []),
+      )) (eq-or-lt-of-le h)
 
   -- ---- each child, and nothing else
 
@@ -78,7 +84,8 @@ module _ (nodes : List Node) (parent : ℕ) where
   children-each zero k = rw (le-ltb k 0 (omega arith))
   children-each (suc m) k = elem-append (childrenOf m nodes parent) _ k ∙ go (eqb k m) refl (isChild m (nodeAt nodes m) parent) refl (children-each m k)
     where
-      go : (t : Bool) → eqb k m ≡ t → (u : Bool) → isChild m (nodeAt nodes m) parent ≡ u → elem (childrenOf m nodes parent) k ≡ ltb k m && isChild k (nodeAt nodes k) parent
+      go : (t : Bool) → eqb k m ≡ t → (u : Bool) → isChild m (nodeAt nodes m) parent ≡ u
+          → elem (childrenOf m nodes parent) k ≡ ltb k m && isChild k (nodeAt nodes k) parent
           → elem (childrenOf m nodes parent) k || elem (cond u (m ∷ []) []) k ≡ ltb k (suc m) && isChild k (nodeAt nodes k) parent
       go true e u is rest =
           let same : k ≡ m = eqb-true k m e in

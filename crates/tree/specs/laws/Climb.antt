@@ -13,13 +13,12 @@ use Rattle.laws.specs.Lists.{elem}
 use Rattle.laws.specs.laws.Tests.{true-false, neither, or-true, or-false}
 use Rattle.tree.specs.declared.node.Node.{Node}
 use Rattle.tree.specs.Node.{touchedOf}
-use Rattle.tree.specs.Tree.{nodeAt, aboveIn, isAbove, pathIn, pathOf, touchedAt}
-use Rattle.tree.specs.laws.Tree.{Falls}
+use Rattle.tree.specs.Tree.{nodeAt, Falls, aboveIn, isAbove, pathIn, pathOf, touchedAt}
 
 module _ (nodes : List Node) (count target : ℕ) (falls : Falls nodes count) where
   -- ---- more steps than are needed change nothing
 
-  path-steps : (f g k : ℕ) → k ≤ f → k ≤ g → k < count → pathIn f nodes k target ≡ pathIn g nodes k target
+  pub path-steps : (f g k : ℕ) → k ≤ f → k ≤ g → k < count → pathIn f nodes k target ≡ pathIn g nodes k target
   unfolding pathIn
   path-steps zero zero k p q h = refl
   path-steps zero (suc g) k p q h = simp (eq-eqb k 0 (omega arith), or-true)
@@ -27,9 +26,10 @@ module _ (nodes : List Node) (count target : ℕ) (falls : Falls nodes count) wh
   path-steps (suc f) (suc g) zero p q h = simp or-true
   path-steps (suc f) (suc g) (suc k) p q h =
       let below : nodeAt nodes (suc k) .parent < suc k = falls (suc k) (omega arith) h in
-      ap (λ (rest : List ℕ). suc k ∷ cond (eqb (suc k) target || eqb (suc k) 0) [] rest) (path-steps f g (nodeAt nodes (suc k) .parent) (omega arith) (omega arith) (omega arith))
+      ap (λ (rest : List ℕ). suc k ∷ cond (eqb (suc k) target || eqb (suc k) 0) [] rest)
+      (path-steps f g (nodeAt nodes (suc k) .parent) (omega arith) (omega arith) (omega arith))
 
-  above-steps : (f g k : ℕ) → k ≤ f → k ≤ g → k < count → aboveIn f nodes k target ≡ aboveIn g nodes k target
+  pub above-steps : (f g k : ℕ) → k ≤ f → k ≤ g → k < count → aboveIn f nodes k target ≡ aboveIn g nodes k target
   unfolding aboveIn
   above-steps zero zero k p q h = refl
   above-steps zero (suc g) k p q h = simp (eq-eqb k 0 (omega arith), or-false)
@@ -37,7 +37,8 @@ module _ (nodes : List Node) (count target : ℕ) (falls : Falls nodes count) wh
   above-steps (suc f) (suc g) zero p q h = refl
   above-steps (suc f) (suc g) (suc k) p q h =
       let below : nodeAt nodes (suc k) .parent < suc k = falls (suc k) (omega arith) h in
-      ap (λ (rest : Bool). eqb (suc k) target || (not (eqb (suc k) 0) && rest)) (above-steps f g (nodeAt nodes (suc k) .parent) (omega arith) (omega arith) (omega arith))
+      ap (λ (rest : Bool). eqb (suc k) target || (not (eqb (suc k) 0) && rest))
+      (above-steps f g (nodeAt nodes (suc k) .parent) (omega arith) (omega arith) (omega arith))
 
   -- ---- step by step
 
@@ -55,7 +56,8 @@ module _ (nodes : List Node) (count target : ℕ) (falls : Falls nodes count) wh
   path-up (suc k) l h =
       let below : nodeAt nodes (suc k) .parent < suc k = falls (suc k) (omega arith) h in
       simp (ne-eqb (suc k) target (λ e. omega arith), eqb·suc-zero)
-      (ap (λ (rest : List ℕ). suc k ∷ rest) (path-steps k (nodeAt nodes (suc k) .parent) (nodeAt nodes (suc k) .parent) (omega arith) (le-refl _) (omega arith)))
+      (ap (λ (rest : List ℕ). suc k ∷ rest)
+      (path-steps k (nodeAt nodes (suc k) .parent) (nodeAt nodes (suc k) .parent) (omega arith) (le-refl _) (omega arith)))
 
   pub above-here : isAbove nodes target target ≡ true
   unfolding aboveIn
@@ -94,7 +96,8 @@ Falling m (k ∷ path) = (k < m) × Falling k path
 pub path-falling : (nodes : List Node) (count target : ℕ) → Falls nodes count → (steps k m : ℕ) → k < m → k < count → Falling m (pathIn steps nodes k target)
 unfolding pathIn
 path-falling nodes count target falls zero k m l h = (l, tt)
-path-falling nodes count target falls (suc steps) k m l h = (l, go (eqb k target || eqb k 0) refl (λ below. path-falling nodes count target falls steps (nodeAt nodes k .parent) k below (omega arith)))
+path-falling nodes count target falls (suc steps) k m l h =
+    (l, go (eqb k target || eqb k 0) refl (λ below. path-falling nodes count target falls steps (nodeAt nodes k .parent) k below (omega arith)))
   where
     rest : List ℕ
     rest = pathIn steps nodes (nodeAt nodes k .parent) target
@@ -127,9 +130,11 @@ touched-parent (n ∷ nodes) zero score (suc k) = refl
 touched-parent (n ∷ nodes) (suc i) score zero = refl
 touched-parent (n ∷ nodes) (suc i) score (suc k) = touched-parent nodes i score k
 
-pub path-touched : (nodes : List Node) (i : ℕ) (score : Float) (target steps k : ℕ) → pathIn steps (touchedAt nodes i score) k target ≡ pathIn steps nodes k target
+pub path-touched : (nodes : List Node) (i : ℕ) (score : Float) (target steps k : ℕ)
+    → pathIn steps (touchedAt nodes i score) k target ≡ pathIn steps nodes k target
 unfolding pathIn
 path-touched nodes i score target zero k = refl
 path-touched nodes i score target (suc steps) k =
     ap (λ (rest : List ℕ). k ∷ cond (eqb k target || eqb k 0) [] rest)
-    (ap (λ (p : ℕ). pathIn steps (touchedAt nodes i score) p target) (touched-parent nodes i score k) ∙ path-touched nodes i score target steps (nodeAt nodes k .parent))
+    (ap (λ (p : ℕ). pathIn steps (touchedAt nodes i score) p target) (touched-parent nodes i score k)
+    ∙ path-touched nodes i score target steps (nodeAt nodes k .parent))

@@ -12,7 +12,7 @@ use borrow.Author.Tests.{eqb-false}
 use Rattle.text.specs.Over.{over, Put}
 use Rattle.text.specs.laws.Over.{length-over, over-none, over-more}
 use Rattle.tree.specs.declared.node.Node.{Node}
-use Rattle.tree.specs.Tree.{nodeAt, bestTo, descentOf, actionsOf, lastOf, solutionOf, endOf}
+use Rattle.tree.specs.Tree.{nodeAt, bestOf, descentOf, actionsOf, lastOf, solutionOf, endOf}
 use Rattle.tree.specs.laws.Tree.{SoundTree, tree-falls}
 use Rattle.tree.specs.laws.Solution.{best-below, best-rises, descent-stop, descent-on, solution-length}
 
@@ -43,17 +43,17 @@ module _ (nodes : List Node) (count : ℕ) (tree : SoundTree nodes count) where
     down-short = omega (arith, down .left, solution-length nodes count tree)
 
     -- there is a child
-    module _ (more : 0 < bestTo count nodes p .at) where
-      longer : length (descentOf nodes count p) ≡ suc (length (descentOf nodes count (bestTo count nodes p .at)))
+    module _ (more : 0 < bestOf count nodes p) where
+      longer : length (descentOf nodes count p) ≡ suc (length (descentOf nodes count (bestOf count nodes p)))
       longer = ap length (descent-on nodes count (tree-falls tree) p more)
 
-      pub down-rises : p < bestTo count nodes p .at
+      pub down-rises : p < bestOf count nodes p
       down-rises = best-rises nodes count (tree-falls tree) p more
 
       pub down-room : len < length (solutionOf nodes count)
       down-room = omega (arith, down .left, longer)
 
-      pub down-on : Down nodes count (bestTo count nodes p .at) (len + 1)
+      pub down-on : Down nodes count (bestOf count nodes p) (len + 1)
       down-on = record {
         inside = best-below nodes count (tree-falls tree) p more;
         left = omega (arith, down .left, longer);
@@ -61,7 +61,7 @@ module _ (nodes : List Node) (count : ℕ) (tree : SoundTree nodes count) where
       }
 
     -- there is none
-    module _ (none : bestTo count nodes p .at ≡ 0) where
+    module _ (none : bestOf count nodes p ≡ 0) where
       pub down-length : len ≡ length (solutionOf nodes count)
       down-length = let no : length (descentOf nodes count p) ≡ 0 = ap length (descent-stop nodes count (tree-falls tree) p none) in omega (arith, down .left)
 
@@ -69,10 +69,10 @@ module _ (nodes : List Node) (count : ℕ) (tree : SoundTree nodes count) where
       down-end = sym (ap (lastOf p) (descent-stop nodes count (tree-falls tree) p none)) ∙ down .ends
 
   module _ {os : List ℕ} {p at : ℕ} {out : List ℕ} (stored : Stored nodes count os p at out) where
-    pub stored-on : 0 < bestTo count nodes p .at → {r : ℕ} {after : List ℕ} → Put out at (nodeAt nodes (bestTo count nodes p .at) .action ∷ []) r after
-        → Stored nodes count os (bestTo count nodes p .at) r after
+    pub stored-on : 0 < bestOf count nodes p → {r : ℕ} {after : List ℕ} → Put out at (nodeAt nodes (bestOf count nodes p) .action ∷ []) r after
+        → Stored nodes count os (bestOf count nodes p) r after
     stored-on more {r} put =
-        let b : ℕ = bestTo count nodes p .at in
+        let b : ℕ = bestOf count nodes p in
         let one : List ℕ = nodeAt nodes b .action ∷ [] in
         let rest : List ℕ = actionsOf nodes (descentOf nodes count b) in
         record {
@@ -81,5 +81,7 @@ module _ (nodes : List Node) (count : ℕ) (tree : SoundTree nodes count) where
               ∙ ap (λ (path : List ℕ). over out at (actionsOf nodes path)) (sym (descent-on nodes count (tree-falls tree) p more)) ∙ stored .rest;
         }
 
-    pub stored-all : bestTo count nodes p .at ≡ 0 → out ≡ over os 0 (solutionOf nodes count)
-    stored-all none = sym (over-none out at) ∙ ap (λ (path : List ℕ). over out at (actionsOf nodes path)) (sym (descent-stop nodes count (tree-falls tree) p none)) ∙ stored .rest
+    pub stored-all : bestOf count nodes p ≡ 0 → out ≡ over os 0 (solutionOf nodes count)
+    stored-all none =
+        sym (over-none out at)
+        ∙ ap (λ (path : List ℕ). over out at (actionsOf nodes path)) (sym (descent-stop nodes count (tree-falls tree) p none)) ∙ stored .rest

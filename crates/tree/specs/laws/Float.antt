@@ -3,11 +3,12 @@
 use mathlib.Core.Path.{_≡_, refl, sym, ap, _∙_, subst}
 use mathlib.Core.Bool.{Bool, true, false, not, _&&_, _||_}
 use Prim.Native.Nat.{ℕ, zero, suc, _+_, _-_, _*_, _≤_, _<_, zero-le}
-use native.Mathlib.Nat.{le-trans, le-of-eq, le-of-mul-le-mul-right, eq-of-mul-eq-mul-right, mul-le-mul-right, mul-one, one-mul, zero-mul, add-mul, mul-assoc, mul-right-comm, sub-zero}
+use native.Mathlib.Nat.{le-trans, le-of-eq, le-of-mul-le-mul-right, eq-of-mul-eq-mul-right, mul-le-mul-right}
+use native.Mathlib.Nat.{mul-one, one-mul, zero-mul, add-mul, mul-assoc, mul-right-comm, sub-zero}
 use native.Mathlib.Omega.{arith}
 use lib.Dec.{T, ltb, eqb, lt→ltb, eqb→eq, eqb-refl, lit≤}
 use lib.IntN.{ℤ, pos}
-use lib.Ieee.{Float, nan, inf, fin, binary32, up, down, round, sum, add, neg, lt, eq, le, ofInt, ofBits, toUnsigned, toBits, top, fits, isNan}
+use lib.Ieee.{Float, nan, inf, fin, binary32, up, down, round, sum, add, neg, lt, eq, le, ofInt, toUnsigned, toBits, top, fits, isNan}
 use lib.Ieee.Bits.{toBits-lt}
 use lib.Ieee.Digits.{Equals}
 use lib.Ieee.Exact.{HasValue}
@@ -16,9 +17,9 @@ use lib.Ieee.Scale.{round-same}
 use borrow.Author.Tests.{ltb-false, eqb-true, eqb-false, lt-ltb, le-ltb, eq-eqb, ne-eqb}
 use Rattle.laws.specs.laws.Tests.{and-left, and-right}
 use Rattle.laws.specs.laws.Small.{Small, or-le}
-use Rattle.tree.specs.Node.{plusZero, one, visitsMost, countMost}
+use Rattle.tree.specs.Node.{plusZero, visitsMost, countMost}
 use Rattle.tree.specs.Sound.{within, minus}
-use Rattle.laws.specs.Floats.{float}
+use Rattle.laws.specs.Floats.{float, one}
 
 -- ---- comparisons of magnitudes, as `le` computes them
 
@@ -101,7 +102,7 @@ small-within (fin true m e) (fin false n d) k is h =
 -- ---- from zero to a whole number k
 
 pub zero-small : (x most : Float) (k : ℕ) → HasValue most false k 1 → T (le plusZero x) → T (le x most) → Small x k
-unfolding le lt eq ofBits
+unfolding le lt eq ofInt
 zero-small x nan k is p h = absurd is
 zero-small x (inf t) k is p h = absurd is
 zero-small x (fin true n d) k is p h = absurd (subst T (is .0) tt)
@@ -113,7 +114,7 @@ zero-small (fin false m e) (fin false n d) k is p h = lowered (m * up e) (n * up
 
 -- what a cast that drops the fraction asks
 pub zero-above : (x : Float) → T (le plusZero x) → T (lt (fin true 1 (pos 0)) x)
-unfolding le lt eq ofBits
+unfolding le lt eq ofInt
 zero-above nan p = p
 zero-above (inf true) p = p
 zero-above (inf false) p = tt
@@ -125,7 +126,7 @@ zero-above (fin false m e) p = lt→ltb 0 (1 * down e + m * up e * 1) (omega (ar
 -- ---- counts: whole numbers up to 2 ^ 24
 
 pub zero-value : HasValue plusZero false 0 1
-unfolding ofBits
+unfolding ofInt
 zero-value = (refl, refl)
 
 pub most-value : HasValue visitsMost false countMost 1
@@ -136,7 +137,7 @@ pub count-small : (x : Float) → T (le plusZero x && le x visitsMost) → Small
 count-small x h = zero-small x visitsMost countMost most-value (and-left (le plusZero x) _ h) (and-right (le plusZero x) _ h)
 
 pub one-value : HasValue one false 1 1
-unfolding ofBits
+unfolding ofInt
 one-value = (refl, refl)
 
 pub one-small : (x : Float) → T (le plusZero x && le x one) → Small x 1
@@ -150,7 +151,8 @@ eq-equals (fin t n d) nan k is h = absurd h
 eq-equals (fin t n d) (inf s) k is h = absurd h
 eq-equals (fin t n d) (fin s m e) k is h =
     let cross : n * up d * down e ≡ m * up e * down d = level-of _ _ _ h in
-    mul-one (m * up e) ∙ eq-of-mul-eq-mul-right (down d) (down-pos d) (m * up e) (k * down e) (sym cross ∙ ap (λ (z : ℕ). z * down e) (sym (mul-one (n * up d)) ∙ is .1) ∙ mul-right-comm k (down d) (down e))
+    mul-one (m * up e) ∙ eq-of-mul-eq-mul-right (down d) (down-pos d) (m * up e) (k * down e)
+    (sym cross ∙ ap (λ (z : ℕ). z * down e) (sym (mul-one (n * up d)) ∙ is .1) ∙ mul-right-comm k (down d) (down e))
 
 pub same-value : (x : Float) (a b : ℕ) → HasValue x false a 1 → Equals x b 1 → a ≡ b
 same-value nan a b p q = absurd p
@@ -173,7 +175,7 @@ unfolding sum
 sum-from-minus-zero a b c e p = rw (e, lt-ltb 0 b p, sub-zero)
 
 pub count-more : (x : Float) (k : ℕ) → toUnsigned 64 x ≡ k → Equals x k 1 → add binary32 x one ≡ float (k + 1)
-unfolding add ofBits ofInt toUnsigned
+unfolding add ofInt toUnsigned
 count-more nan k e is = absurd is
 count-more (inf s) k e is = absurd is
 count-more (fin true m x) k e is =
@@ -188,7 +190,7 @@ count-more (fin false m x) k e is =
 -- ---- maxima
 
 pub plus-above : (x y : Float) → T (not (minus x)) → T (lt x y) → T (le plusZero y) × T (not (minus y))
-unfolding le lt eq ofBits
+unfolding le lt eq ofInt
 plus-above nan y p h = absurd h
 plus-above (inf true) y p h = absurd p
 plus-above (inf false) nan p h = absurd h

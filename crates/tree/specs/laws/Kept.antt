@@ -1,4 +1,5 @@
--- THE theorems of the tree, over the tests by which the entries answer: every accepted call leaves a sound tree, and after back-propagation exactly the records on the path differ.
+-- THE theorems of the tree, over the tests by which the entries answer: every accepted call leaves a sound tree, and after back-propagation exactly the
+-- records on the path differ.
 -- Assumes nothing.
 use mathlib.Core.Path.{_≡_, refl}
 use mathlib.Core.Bool.{true, false}
@@ -24,7 +25,8 @@ use Rattle.tree.specs.Refusals.{treeTest, nodeTest, aboveTest, visitsTes
 pub new-kept : (nodes : List Node) → Passed ≡ checksOf (newTests nodes) → isSound (plantedOf nodes) newCount ≡ true
 new-kept nodes e = of-tree (planted-sound nodes (leb-true newCount (length nodes) (shown (roomTest (length nodes) newCount) [] e refl .0)))
 
-pub insert-kept : (nodes : List Node) (count parent action : ℕ) → Passed ≡ checksOf (insertTests nodes count parent action) → isSound (insertedOf nodes count parent action) (count + 1) ≡ true
+pub insert-kept : (nodes : List Node) (count parent action : ℕ) → Passed ≡ checksOf (insertTests nodes count parent action)
+    → isSound (insertedOf nodes count parent action) (count + 1) ≡ true
 insert-kept nodes count parent action e =
     let is = shown (actionTest action) _ e refl in
     let tree = shown (treeTest nodes count) _ (is .1) refl in

@@ -2,7 +2,7 @@
 -- Assumes nothing.
 use mathlib.Core.Path.{_≡_, refl}
 use mathlib.Core.Bool.{true, false}
-use mathlib.Core.List.{List}
+use mathlib.Core.List.{List, []}
 use Prim.Native.Nat.{ℕ, _<_}
 use lib.Dec.{leb, ltb}
 use lib.ListN.{length}
@@ -14,7 +14,7 @@ use Rattle.text.specs.Over.{over}
 use Rattle.tree.specs.declared.node.Node.{Node}
 use Rattle.tree.specs.declared.paths.Offspring.the-variants as L
 use Rattle.tree.specs.declared.paths.Solved.the-variants as S
-use Rattle.tree.specs.Tree.{isSound, childrenOf, bestTo, solutionOf, endOf}
+use Rattle.tree.specs.Tree.{isSound, childrenOf, solutionOf, endOf}
 use Rattle.tree.specs.laws.Tree.{tree-of}
 use Rattle.tree.specs.laws.Solution.{solution-ends, solution-length}
 use Rattle.tree.specs.Refusals.{treeTest, solutionTests}
@@ -34,7 +34,8 @@ module _ (nodes : List Node) (count k : ℕ) (out : List ℕ) where
       pub children-short : leb needed (length out) ≡ false → Lists nodes count k out (L.Refused (NoRoom needed)) out
       children-short e = rw is (holds-room sound (holds-room used (fails-room (rw is at e))))
 
-      pub children-listed : leb needed (length out) ≡ true → {len : ℕ} {after : List ℕ} → len ≡ length (childrenOf count nodes k) → after ≡ over out 0 (childrenOf count nodes k)
+      pub children-listed : leb needed (length out) ≡ true → {len : ℕ} {after : List ℕ} → len ≡ length (childrenOf count nodes k)
+          → after ≡ over out 0 (childrenOf count nodes k)
           → Lists nodes count k out (L.Children len) after
       children-listed e same wrote = rw same (holds-room sound (holds-room used (holds-room (rw is at e) (answered-room refl refl wrote))))
 
@@ -55,7 +56,7 @@ module _ (nodes : List Node) (count : ℕ) (out : List ℕ) where
 -- the way down is shorter than the count, and its last record has no child
 pub record Ended (nodes : List Node) (count : ℕ) : Type 0 where
   pub short : length (solutionOf nodes count) < count
-  pub ends : bestTo count nodes (endOf nodes count) .at ≡ 0
+  pub ends : childrenOf count nodes (endOf nodes count) ≡ []
 
 pub solution-kept : (nodes : List Node) (count room : ℕ) → Passed ≡ checksOf (solutionTests nodes count room) → Ended nodes count
 solution-kept nodes count room e =

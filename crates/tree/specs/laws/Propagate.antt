@@ -94,7 +94,8 @@ module _ (nodes : List Node) (count start target : ℕ) (score : Float) where
     unfolding restTests
     back-stops fell = go checked fell ends
       where
-        go : (c : Checked) → isPassed c ≡ false → c ≡ checksOf (endTests (isSound nodes count) count start target) → c ≡ checksOf (backTests nodes count start target score)
+        go : (c : Checked) → isPassed c ≡ false → c ≡ checksOf (endTests (isSound nodes count) count start target)
+            → c ≡ checksOf (backTests nodes count start target score)
         go Passed fell f = absurd (true-false fell)
         go (Refused x) fell f = checks-stop-by (endTests (isSound nodes count) count start target) restTests f refl
 
@@ -108,11 +109,15 @@ module _ (nodes : List Node) (count start target : ℕ) (score : Float) where
           climbs-of start (tree-of (tree .0)) (ltb-true start count (from .0))
 
       -- and what the survey found decides
-      pub back-goes-on : {survey : Survey} {r : Checked} → Surveys nodes start target survey → r ≡ checksOf (wayTests survey score) → r ≡ checksOf (backTests nodes count start target score)
+      pub back-goes-on : {survey : Survey} {r : Checked} → Surveys nodes start target survey → r ≡ checksOf (wayTests survey score)
+          → r ≡ checksOf (backTests nodes count start target score)
       unfolding restTests judged
-      back-goes-on {survey} s f = checks-on-by (endTests (isSound nodes count) count start target) restTests ends (passed checked held) (f ∙ same (survey .above) refl (s .above) (s .full))
+      back-goes-on {survey} s f =
+          checks-on-by (endTests (isSound nodes count) count start target) restTests ends (passed checked held)
+          (f ∙ same (survey .above) refl (s .above) (s .full))
         where
-          same : (b : Bool) → survey .above ≡ b → survey .above ≡ isAbove nodes start target → (survey .above ≡ true → survey .full ≡ anyFull nodes (pathOf nodes start target)) → checksOf (wayTests survey score) ≡ checksOf restTests
+          same : (b : Bool) → survey .above ≡ b → survey .above ≡ isAbove nodes start target
+              → (survey .above ≡ true → survey .full ≡ anyFull nodes (pathOf nodes start target)) → checksOf (wayTests survey score) ≡ checksOf restTests
           same true q above full = rw (sym above, q, full q)
           same false q above full = rw (sym above, q)
 
@@ -127,19 +132,30 @@ module _ (nodes : List Node) (count start target : ℕ) (score : Float) where
         let to = shown (nodeTest count target) _ (from .1) p in
         record { climbs = climbs-of start (tree-of (tree .0)) (ltb-true start count (from .0)); above = shown (aboveTest nodes start target) _ (to .1) p .0 }
 
-    pub back-done : {r : Propagated} {after : List Node} → isPassed checked ≡ true → after ≡ backOf nodes start target score → r ≡ answerOf checked → Propagates nodes count start target score r after
+    pub back-done : {r : Propagated} {after : List Node} → isPassed checked ≡ true → after ≡ backOf nodes start target score → r ≡ answerOf checked
+        → Propagates nodes count start target score r after
     back-done held wrote is = rw (wrote, is) (go checked held e)
       where
-        go : (c : Checked) → isPassed c ≡ true → c ≡ checksOf (backTests nodes count start target score) → Propagates nodes count start target score (answerOf c) (backOf nodes start target score)
-        go Passed held f = record { says = record { number = judged-passed reportOf success _ f; same = judged-passed P.Refused P.Done _ f }; records = judged-passed (λ x. nodes) _ _ f }
+        go : (c : Checked) → isPassed c ≡ true → c ≡ checksOf (backTests nodes count start target score)
+            → Propagates nodes count start target score (answerOf c) (backOf nodes start target score)
+        go Passed held f =
+            record {
+              says = record { number = judged-passed reportOf success _ f; same = judged-passed P.Refused P.Done _ f };
+              records = judged-passed (λ x. nodes) _ _ f;
+            }
         go (Refused x) held f = absurd (true-false (sym held))
 
     pub back-refused : {r : Propagated} → isPassed checked ≡ false → r ≡ answerOf checked → Propagates nodes count start target score r nodes
     back-refused fell is = rw is (go checked fell e)
       where
-        go : (c : Checked) → isPassed c ≡ false → c ≡ checksOf (backTests nodes count start target score) → Propagates nodes count start target score (answerOf c) nodes
+        go : (c : Checked) → isPassed c ≡ false → c ≡ checksOf (backTests nodes count start target score)
+            → Propagates nodes count start target score (answerOf c) nodes
         go Passed fell f = absurd (true-false fell)
-        go (Refused x) fell f = record { says = record { number = judged-refused reportOf success _ f; same = judged-refused P.Refused P.Done _ f }; records = judged-refused (λ y. nodes) _ _ f }
+        go (Refused x) fell f =
+            record {
+              says = record { number = judged-refused reportOf success _ f; same = judged-refused P.Refused P.Done _ f };
+              records = judged-refused (λ y. nodes) _ _ f;
+            }
 
 -- ---- THE theorems of the entry: an answer that is no refusal is that of tests that have all passed, so all of Kept.antt holds of what is left
 
@@ -160,7 +176,8 @@ module _ (nodes : List Node) (count start target : ℕ) (score : Float) {after :
   pub done-sound : isSound after count ≡ true
   done-sound = rw done-records (back-kept nodes count start target score done-passed)
 
-module _ (nodes : List Node) (count start target : ℕ) (score : Float) {after : List Node} {x : Refusal} (p : Propagates nodes count start target score (P.Refused x) after) where
+module _ (nodes : List Node) (count start target : ℕ) (score : Float) {after : List Node} {x : Refusal}
+    (p : Propagates nodes count start target score (P.Refused x) after) where
   -- a refusal leaves every record
   pub refused-records : after ≡ nodes
   refused-records = go (checksOf (backTests nodes count start target score)) refl

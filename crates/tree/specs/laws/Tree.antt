@@ -18,7 +18,7 @@ use Rattle.tree.specs.declared.node.Node.{Node}
 use Rattle.tree.specs.Node.{nodeOf, rootNode}
 use Rattle.tree.specs.Sound.{soundAt}
 use Rattle.tree.specs.laws.Node.{sound-parts, root-sound, new-sound}
-use Rattle.tree.specs.Tree.{noNode, nodeAt, soundTo, isSound, plantedOf, insertedOf}
+use Rattle.tree.specs.Tree.{noNode, nodeAt, soundTo, isSound, plantedOf, insertedOf, Falls}
 
 -- ---- soundness, record by record
 
@@ -54,9 +54,6 @@ of-tree {nodes} {count} t = simp (le-leb 1 count (t .some), le-leb count (length
 
 -- ---- a parent is below its child
 
-abbrev pub Falls : List Node → ℕ → Type 0
-Falls nodes count = (k : ℕ) → 0 < k → k < count → nodeAt nodes k .parent < k
-
 pub parent-below : (k : ℕ) (n : Node) → 0 < k → soundAt k n ≡ true → n .parent < k
 parent-below k n some e = ltb-true _ _ (both _ _ (rw (ne-eqb k 0 (λ z. omega arith)) at (sound-parts e .place)) .0)
 
@@ -71,9 +68,11 @@ planted-sound nodes some = record { some = omega arith; room = rw length-set som
     first : (k : ℕ) → k ≡ 0 → soundAt k (nodeAt (plantedOf nodes) k) ≡ true
     first k e = rw (e, getD-set-same nodes 0 rootNode noNode some) root-sound
 
-module _ (nodes : List Node) (count parent action : ℕ) (tree : SoundTree nodes count) (room : count < length nodes) (below : parent < count) (is : known action ≡ true) where
+module _ (nodes : List Node) (count parent action : ℕ) (tree : SoundTree nodes count) (room : count < length nodes)
+    (below : parent < count) (is : known action ≡ true) where
   pub inserted-sound : SoundTree (insertedOf nodes count parent action) (count + 1)
-  inserted-sound = record { some = omega arith; room = rw length-set (omega arith); each = λ k h. ⊎-elim (here k) (before k) (last-or-below k count (rw add-one at h)) }
+  inserted-sound =
+      record { some = omega arith; room = rw length-set (omega arith); each = λ k h. ⊎-elim (here k) (before k) (last-or-below k count (rw add-one at h)) }
     where
       here : (k : ℕ) → k ≡ count → soundAt k (nodeAt (insertedOf nodes count parent action) k) ≡ true
       here k e = rw (e, getD-set-same nodes count (nodeOf parent action) noNode room) (new-sound count parent action (tree .some) below is)

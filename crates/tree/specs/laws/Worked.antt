@@ -5,12 +5,12 @@ use mathlib.Core.Bool.{true, false}
 use mathlib.Core.List.{List, [], _∷_}
 use Prim.Native.Nat.{ℕ}
 use lib.Ieee.{nan, binary32, ofBits, ofInt, toBits, toUnsigned, add, neg, lt, le, eq}
+use Rattle.laws.specs.Floats.{one}
 use Rattle.action.specs.Actions.{BasicTouch, Observe}
 use Rattle.tree.specs.declared.node.Node.{Node}
-use Rattle.tree.specs.Node.{one, rootNode, isScore, touchedOf}
+use Rattle.tree.specs.Node.{rootNode, isScore, touchedOf}
 use Rattle.tree.specs.Sound.{isCount, isMaximum, soundAt}
-use Rattle.tree.specs.Best.{pickOf}
-use Rattle.tree.specs.Tree.{soundTo, isSound, childrenOf, aboveIn, isAbove, pathIn, touchedAll, backOf, bestTo, descentIn, solutionOf, endOf}
+use Rattle.tree.specs.Tree.{soundTo, isSound, childrenOf, aboveIn, isAbove, pathIn, touchedAll, backOf, allYield, bestIn, descentIn, solutionOf, endOf}
 
 -- a child of the root that was visited once, with 0.5
 abbrev child : ℕ → Node
@@ -25,11 +25,11 @@ twins-sound = refl
 
 -- children 1 and 2 of the root, both 0.5: the path takes 2
 takes-the-last : solutionOf twins 3 ≡ Observe ∷ []
-unfolding descentIn bestTo pickOf ofBits le lt eq
+unfolding descentIn childrenOf bestIn allYield ofBits ofInt lt eq
 takes-the-last = refl
 
 ends-at-it : endOf twins 3 ≡ 2
-unfolding descentIn bestTo pickOf ofBits le lt eq
+unfolding descentIn childrenOf bestIn allYield ofBits ofInt lt eq
 ends-at-it = refl
 
 both-children : childrenOf 3 twins 0 ≡ 1 ∷ 2 ∷ []
@@ -50,25 +50,25 @@ not-above = refl
 
 -- +0 stays when -0 comes, and -0 is a score
 zero-stays : toBits binary32 (touchedOf rootNode (ofBits binary32 0x8000_0000) .«max_score») ≡ 0
-unfolding touchedOf toBits ofBits lt
+unfolding touchedOf toBits ofBits ofInt lt
 zero-stays = refl
 
 minus-zero-scores : isScore (ofBits binary32 0x8000_0000) ≡ true
-unfolding ofBits le lt eq
+unfolding ofBits ofInt le lt eq
 minus-zero-scores = refl
 
 -- the next after 1, and a NaN
 above-one : isScore (ofBits binary32 0x3f80_0001) ≡ false
-unfolding ofBits le lt eq
+unfolding ofBits ofInt le lt eq
 above-one = refl
 
 nan-scores-not : isScore nan ≡ false
-unfolding ofBits le lt eq
+unfolding ofBits ofInt le lt eq
 nan-scores-not = refl
 
 -- a maximum is not -0
 minus-zero-no-maximum : isMaximum (ofBits binary32 0x8000_0000) ≡ false
-unfolding isMaximum ofBits le lt eq
+unfolding isMaximum ofBits ofInt le lt eq
 minus-zero-no-maximum = refl
 
 -- visits: the most, the next float after it, and a half

@@ -7,9 +7,11 @@ use mir.Syntax.{w8}
 use mir.Val.{SFits}
 use mir.ValLaws.{toZ-ofZ}
 use borrow.Author.Needs.{needs}
+use Rattle.action.specs.Price.{comboNumber}
+use Rattle.craft_state.specs.Perfection.{perfectionNumber}
 use Rattle.score.specs.Result.{verdictOf}
 use Rattle.simulator.specs.declared.replay.Replay.{Replay}
-use Rattle.crafty_c.specs.Numbers.{scoreNumber, wordOf, comboNumber, perfectionNumber, lastNumber, flagNumber, replayNumbers}
+use Rattle.crafty_c.specs.Numbers.{scoreNumber, wordOf, lastNumber, flagNumber, replayNumbers}
 use Rattle.crafty_c.proofs.numbers.numbers.Statement.{statement}
 use Rattle.crafty_c.proofs.numbers.numbers.Tie as tie
 

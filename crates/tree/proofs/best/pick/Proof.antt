@@ -1,6 +1,6 @@
 -- `tree::best::pick` meets its contract.
 -- Assumes nothing.
-use Rattle.tree.specs.Best.{pickOf}
+use Rattle.tree.specs.inner.Best.{pickOf}
 use Rattle.tree.proofs.best.pick.Statement.{statement}
 use Rattle.tree.proofs.best.pick.Tie as tie
 

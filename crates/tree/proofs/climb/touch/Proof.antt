@@ -29,6 +29,7 @@ touch-spec 𝓤 H 𝓜 𝓖 𝓡 =
     calls-shared 𝓣 S ys ! then node-at′ reads (a .0, tt) (are .0, tt) same pre (λ _ _. opd ! refl & opd ! refl & no-more !) (λ n n-is n-ty n-said. lands-in ! refl (n-ty .0) $
     calls-plain ! 𝓣 then touched′ touches (n, a .1) (n-is, are .1) tt (λ _. opd ! refl & opd ! refl & no-more !) (λ m m-is m-ty m-said. lands-in ! refl (m-ty .0) $
     reborrows ! (S .room .0) refl refl refl refl refl refl refl refl $
-    calls-mut 𝓣 S ys ! then put-node′ puts (a .0, (m, tt)) (are .0, (m-is, tt)) same pre (λ _ _. opd ! refl & opd ! refl & opd ! refl & no-more !) (λ _ zs _ ty same′ said. lands-in ! refl (ty .0) $
+    -- what is put back is read off the code: that it is the touched record is what the records at exit show
+    calls-mut 𝓣 S ys ! then put-node′ puts (a .0, (_, tt)) (are .0, (search, tt)) same pre (λ _ _. opd ! refl & opd ! refl & opd ! refl & no-more !) (λ _ zs _ ty same′ said. lands-in ! refl (ty .0) $
     sets ! (of-opd ! (unit-lit !)) refl (tt, tt) $ returns ! Q refl refl refl $
     return tt zs refl same′ (said ∙ ap (λ (x : Node). set ys (a .0) x) (m-said ∙ ap (λ (x : Node). touchedOf x (a .1 .0)) n-said))))))

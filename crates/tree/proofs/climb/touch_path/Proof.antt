@@ -56,7 +56,8 @@ touch-path-spec 𝓤 H 𝓜 𝓖 𝓡 =
     (λ x over.
     let there : x .k ≡ target = write-arrives ys start target score pre (x .inv) (ltb-false target (x .k) over) in
     reborrows ! (S .room .0) refl refl refl refl refl refl refl refl $
-    calls-mut 𝓣 S (x .now) ! then touch′ touches (a .1) (are .1) (x .inv .long ∙ same) (omega (arith, there, x .inv .on, x .inv .long, pre .climbs .room)) (λ _ _. opd ! refl & opd ! refl & opd ! refl & no-more !) (λ _ zs _ ty same′ said. lands-in ! refl (ty .0) $
+    -- the last record is read off the code: that it is the target is what the records at exit show
+    calls-mut 𝓣 S (x .now) ! then touch′ touches (_, (score, tt)) ((refl, omega (arith, are .0 .1, are .1 .0 .1)), are .1 .1) (x .inv .long ∙ same) (omega (arith, there, x .inv .on, x .inv .long, pre .climbs .room)) (λ _ _. opd ! refl & opd ! refl & opd ! refl & no-more !) (λ _ zs _ ty same′ said. lands-in ! refl (ty .0) $
     sets ! (of-opd ! (unit-lit !)) refl (tt, tt) $ returns ! Q refl refl refl $
-    return tt zs refl same′ (said ∙ write-ends ys start target score pre (x .inv) there)))
+    return tt zs refl same′ (write-ends ys start target score pre (x .inv) there said (omega arith))))
     (record { k = start; now = ys; inv = write-starts ys start target score pre }))

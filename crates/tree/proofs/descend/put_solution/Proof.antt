@@ -8,7 +8,7 @@ use borrow.Author.Tests.{eqb-true}
 use Rattle.text.specs.Over.{Put}
 use Rattle.tree.specs.declared.node.Node.{Node}
 use Rattle.tree.specs.declared.best.Best.{Best}
-use Rattle.tree.specs.Tree.{nodeAt, bestTo}
+use Rattle.tree.specs.Tree.{nodeAt, bestOf}
 use Rattle.tree.specs.laws.Tree.{SoundTree}
 use Rattle.tree.specs.laws.Descent.{Down, Stored, some, down-first, down-room, down-rises, down-on, down-end, stored-first, stored-on, stored-all}
 use Rattle.tree.proofs.best.Best as B
@@ -31,7 +31,7 @@ record State (xs : List Node) (count : ℕ) (os : List ℕ) : Type 0 where
   best : Best
   out : List ℕ
   best-is : Is B.the-row best (best′ .val best ∷ [])
-  found : best ≡ bestTo count xs p
+  found : best .at ≡ bestOf count xs p
   down : Down xs count p at
   stored : Stored xs count os p at out
 
@@ -40,7 +40,7 @@ record Turned (xs : List Node) (count : ℕ) (os : List ℕ) (k r : ℕ) (after 
   down : Down xs count k r
   stored : Stored xs count os k r after
 
-turned : (xs : List Node) (count : ℕ) (tree : SoundTree xs count) (os : List ℕ) (x : State xs count os) → 0 < bestTo count xs (x .p) .at
+turned : (xs : List Node) (count : ℕ) (tree : SoundTree xs count) (os : List ℕ) (x : State xs count os) → 0 < bestOf count xs (x .p)
     → {r : ℕ} {after : List ℕ} {n : Node} → n ≡ nodeAt xs (x .best .at) → Put (x .out) (x .at) (n .action ∷ []) r after → Turned xs count os (x .best .at) r after
 turned xs count tree os x more e put =
     rw (x .found) (record {
@@ -61,13 +61,13 @@ put-solution-spec 𝓤 H 𝓜 𝓖 𝓡 =
     let E = env (code.function .locals) bs in
     sets ! (of-opd ! (lit ! tt)) refl (tt, record { fits = lit< tt }) $
     sets ! (of-opd ! (lit ! tt)) refl (tt, record { fits = lit< tt }) $
-    calls-shr 𝓣 S ys ! then best-child′ finds (n, (0, tt)) (are .0, ((refl, lit< tt), tt)) same (tree .room) (λ _ _. opd ! refl & opd ! refl & opd ! refl & no-more !) (λ b₀ b₀-is b₀-ty b₀-said. lands-in ! refl (b₀-ty .0) $
+    calls-shr 𝓣 S ys ! then best-child′ finds (n, (0, tt)) (are .0, ((refl, lit< tt), tt)) same tree (λ _ _. opd ! refl & opd ! refl & opd ! refl & no-more !) (λ b₀ b₀-is b₀-ty b₀-said. lands-in ! refl (b₀-ty .0) $
     whiles 𝓣 (λ (x : State ys n os). ‵ (Shr S ys) ∷ ‵ (Tok S) ∷ holding (Own O (x .out)) (Tok O) E (none ∷ has (fat S) ∷ has (fat O) ∷ has (usize′ .val n) ∷ has (usize′ .val (x .p)) ∷ has (usize′ .val (x .at)) ∷ has (best′ .val (x .best)) ∷ []))
     (λ x. n - x .p) (λ x. not (eqb (x .best .at) 0)) ! (λ _. refl) (λ _ _. (tt, tt)) (λ _ _. refl) (λ x. bin ! (part ! refl refl refl refl) (lit ! tt) tt)
     (λ x goes-on G _ again.
-    let more : 0 < bestTo n ys (x .p) .at = subst (λ (b : Best). 0 < b .at) (x .found) (some (x .best .at) (not-true _ goes-on)) in
-    let below : x .best .at < n = subst (λ (b : Best). b .at < n) (sym (x .found)) (down-on ys n tree (x .down) more .inside) in
-    let rises : x .p < x .best .at = subst (λ (b : Best). x .p < b .at) (sym (x .found)) (down-rises ys n tree (x .down) more) in
+    let more : 0 < bestOf n ys (x .p) = subst (λ (k : ℕ). 0 < k) (x .found) (some (x .best .at) (not-true _ goes-on)) in
+    let below : x .best .at < n = subst (λ (k : ℕ). k < n) (sym (x .found)) (down-on ys n tree (x .down) more .inside) in
+    let rises : x .p < x .best .at = subst (λ (k : ℕ). x .p < k) (sym (x .found)) (down-rises ys n tree (x .down) more) in
     let k-fits : x .best .at < 2 ^ 64 = omega (arith, below, are .0 .1) in
     let long : length (x .out) ≡ O .count = x .stored .long ∙ same-o in
     let room : x .at < length (x .out) = omega (arith, down-room ys n tree (x .down) more, pre .1, x .stored .long) in
@@ -76,11 +76,11 @@ put-solution-spec 𝓤 H 𝓜 𝓖 𝓡 =
     reborrows ! (O .room .0) refl refl refl refl refl refl refl refl $ move ! (2 ∷ 3 ∷ []) $
     calls-mut 𝓣 O (x .out) ! then put-byte′ puts (x .at, (m .action, tt)) ((refl, omega (arith, room, long, O .room .0)), ((refl, action-fits m m-is), tt)) long room (λ _ _. opd ! refl & opd ! refl & part ! refl refl refl refl & no-more !) (λ r zs r-is r-ty same′ said. lands-in ! refl (r-ty .0) $ move ! (2 ∷ 3 ∷ []) $
     let turn : Turned ys n os (x .best .at) r zs = turned ys n tree os x more m-said said in
-    calls-shr 𝓣 S ys ! last best-child′ finds (n, (x .best .at, tt)) (are .0, ((refl, k-fits), tt)) same (tree .room) (λ _ _. opd ! refl & opd ! refl & opd ! refl & no-more !) (λ b b-is b-ty b-said. lands-last ! refl (b-ty .0) $
+    calls-shr 𝓣 S ys ! last best-child′ finds (n, (x .best .at, tt)) (are .0, ((refl, k-fits), tt)) same tree (λ _ _. opd ! refl & opd ! refl & opd ! refl & no-more !) (λ b b-is b-ty b-said. lands-last ! refl (b-ty .0) $
     keeps ! 7 refl $
     again (record { p = x .best .at; at = r; best = b; out = zs; best-is = b-is; found = b-said; down = turn .down; stored = turn .stored }) (omega (arith, rises, below))))))
     (λ x over.
-    let end : bestTo n ys (x .p) .at ≡ 0 = ap (λ (b : Best). b .at) (sym (x .found)) ∙ eqb-true (x .best .at) 0 (not-false _ over) in
+    let end : bestOf n ys (x .p) ≡ 0 = sym (x .found) ∙ eqb-true (x .best .at) 0 (not-false _ over) in
     let fits : x .p < 2 ^ 64 = omega (arith, x .down .inside, are .0 .1) in
     sets ! (of-opd ! (opd ! refl)) refl (tt, record { fits = fits }) $ returns ! Q refl refl refl $
     return (x .p) (x .out) (refl, fits) (x .stored .long ∙ same-o) (down-end ys n tree (x .down) end, stored-all ys n tree (x .stored) end))

@@ -6,7 +6,7 @@ use denote.Laws.{Is}
 use borrow.Author.Tests.{eqb-true}
 use Rattle.tree.specs.declared.node.Node.{Node}
 use Rattle.tree.specs.declared.best.Best.{Best}
-use Rattle.tree.specs.Tree.{bestTo}
+use Rattle.tree.specs.Tree.{bestOf}
 use Rattle.tree.specs.laws.Descent.{Down, some, down-first, down-short, down-rises, down-on, down-length}
 use Rattle.tree.proofs.best.Best as B
 use Rattle.walks.proofs.Walking.{_≡_, refl, sym, ap, _∙_, subst, ℕ, _+_, _-_, _<_, _^_, arith, List, [], _∷_, eqb, lit<, not-true, not-false, tables, _$_, !, lit, of-opd, bin, no-more, cited, usize′, none, has, holding, env, opd, part, _&_, sets, lands-in, lands-last, keeps, returns, whiles, fat, Shr, Tok, then, last, calls-shr, shr-proved}
@@ -22,7 +22,7 @@ record State (xs : List Node) (count : ℕ) : Type 0 where
   len : ℕ
   best : Best
   best-is : Is B.the-row best (best′ .val best ∷ [])
-  found : best ≡ bestTo count xs p
+  found : best .at ≡ bestOf count xs p
   down : Down xs count p len
 
 pub solution-len-spec : {M : Type 1} → stated.statement M
@@ -34,20 +34,20 @@ solution-len-spec 𝓤 H 𝓜 𝓖 𝓡 =
     let n : ℕ = a .0 in
     let E = env (code.function .locals) bs in
     sets ! (of-opd ! (lit ! tt)) refl (tt, record { fits = lit< tt }) $
-    calls-shr 𝓣 S ys ! then best-child′ finds (n, (0, tt)) (are .0, ((refl, lit< tt), tt)) same (pre .room) (λ _ _. opd ! refl & opd ! refl & lit ! tt & no-more !) (λ b₀ b₀-is b₀-ty b₀-said. lands-in ! refl (b₀-ty .0) $
+    calls-shr 𝓣 S ys ! then best-child′ finds (n, (0, tt)) (are .0, ((refl, lit< tt), tt)) same pre (λ _ _. opd ! refl & opd ! refl & lit ! tt & no-more !) (λ b₀ b₀-is b₀-ty b₀-said. lands-in ! refl (b₀-ty .0) $
     whiles 𝓣 (λ (x : State ys n). holding (Shr S ys) (Tok S) E (none ∷ has (fat S) ∷ has (usize′ .val n) ∷ has (usize′ .val (x .len)) ∷ has (best′ .val (x .best)) ∷ []))
     (λ x. n - x .p) (λ x. not (eqb (x .best .at) 0)) ! (λ _. refl) (λ _ _. (tt, tt)) (λ _ _. refl) (λ x. bin ! (part ! refl refl refl refl) (lit ! tt) tt)
     (λ x goes-on G _ again.
-    let more : 0 < bestTo n ys (x .p) .at = subst (λ (b : Best). 0 < b .at) (x .found) (some (x .best .at) (not-true _ goes-on)) in
-    let on : Down ys n (x .best .at) (x .len + 1) = subst (λ (b : Best). Down ys n (b .at) (x .len + 1)) (sym (x .found)) (down-on ys n pre (x .down) more) in
+    let more : 0 < bestOf n ys (x .p) = subst (λ (k : ℕ). 0 < k) (x .found) (some (x .best .at) (not-true _ goes-on)) in
+    let on : Down ys n (x .best .at) (x .len + 1) = subst (λ (k : ℕ). Down ys n k (x .len + 1)) (sym (x .found)) (down-on ys n pre (x .down) more) in
     let fits : x .len + 1 < 2 ^ 64 = omega (arith, down-short ys n pre on, are .0 .1) in
-    let rises : x .p < x .best .at = subst (λ (b : Best). x .p < b .at) (sym (x .found)) (down-rises ys n pre (x .down) more) in
+    let rises : x .p < x .best .at = subst (λ (k : ℕ). x .p < k) (sym (x .found)) (down-rises ys n pre (x .down) more) in
     sets ! (bin ! (opd ! refl) (lit ! tt) (record { fits = fits })) refl (tt, record { fits = fits }) $
-    calls-shr 𝓣 S ys ! last best-child′ finds (n, (x .best .at, tt)) (are .0, ((refl, omega (arith, on .inside, are .0 .1)), tt)) same (pre .room) (λ _ _. opd ! refl & opd ! refl & part ! refl refl refl refl & no-more !) (λ b b-is b-ty b-said. lands-last ! refl (b-ty .0) $
+    calls-shr 𝓣 S ys ! last best-child′ finds (n, (x .best .at, tt)) (are .0, ((refl, omega (arith, on .inside, are .0 .1)), tt)) same pre (λ _ _. opd ! refl & opd ! refl & part ! refl refl refl refl & no-more !) (λ b b-is b-ty b-said. lands-last ! refl (b-ty .0) $
     keeps ! 5 refl $
     again (record { p = x .best .at; len = x .len + 1; best = b; best-is = b-is; found = b-said; down = on }) (omega (arith, rises, on .inside))))
     (λ x over.
-    let end : bestTo n ys (x .p) .at ≡ 0 = ap (λ (b : Best). b .at) (sym (x .found)) ∙ eqb-true (x .best .at) 0 (not-false _ over) in
+    let end : bestOf n ys (x .p) ≡ 0 = sym (x .found) ∙ eqb-true (x .best .at) 0 (not-false _ over) in
     let fits : x .len < 2 ^ 64 = omega (arith, down-short ys n pre (x .down), are .0 .1) in
     sets ! (of-opd ! (opd ! refl)) refl (tt, record { fits = fits }) $ returns ! Q refl refl refl $
     return (x .len) (refl, fits) (down-length ys n pre (x .down) end))

@@ -2,12 +2,16 @@
 -- Assumes nothing.
 use lib.ListN.{length, set}
 use contract.Running.{tablesOf}
+use Rattle.refusal.specs.laws.Judge.{shown}
+use Rattle.action.specs.Known.{actionTest}
 use Rattle.tree.specs.declared.node.Node.{Node}
+use Rattle.tree.specs.declared.grow.Inserted.{Inserted}
 use Rattle.tree.specs.Tree.{isSound}
+use Rattle.tree.specs.Refusals.{treeTest, nodeTest}
 use Rattle.tree.specs.laws.Tree.{tree-of}
 use Rattle.tree.specs.Grow.{isInserted, InsertAnswer}
-use Rattle.tree.specs.laws.Grow.{inserts, inserted-room}
-use Rattle.walks.proofs.Walking.{_≡_, refl, sym, ap, _∙_, subst, ℕ, _+_, _<_, _≤_, _^_, arith, Bool, true, false, not-true, not-false, tables, _$_, !, of-opd, un, no-more, cited, opd, part, _&_, sets, lands-in, returns, guards, reborrows, then, calls-mut, calls-shared, calls-plain, mut-proved}
+use Rattle.tree.specs.laws.Grow.{inserts, inserted-passed, inserted-room}
+use Rattle.walks.proofs.Walking.{_≡_, refl, sym, ap, _∙_, subst, ℕ, _+_, _<_, _≤_, _^_, arith, List, Bool, true, false, ltb-true, not-true, not-false, tables, _$_, !, of-opd, un, no-more, cited, opd, part, _&_, sets, lands-in, returns, guards, reborrows, then, calls-mut, calls-shared, calls-plain, mut-proved}
 use Rattle.tree.proofs.Types.{put-node′}
 use Rattle.tree.proofs.TypesGrow.{is-sound′, new′, insert-answer′, is-inserted′, insert′}
 use Rattle.tree.proofs.scan.is_sound.Symbol as is-sound
@@ -23,6 +27,12 @@ use Rattle.tree.proofs.records.put_node.Met as put-node-thm
 use Rattle.tree.proofs.grow.insert.Key as insert
 use Rattle.tree.proofs.grow.insert.Statement as stated
 use Rattle.tree.proofs.grow.insert.Code as code
+
+inserted-below : (nodes : List Node) (count parent action : ℕ) {r : Inserted} → InsertAnswer (isSound nodes count) (length nodes) count parent action r → isInserted r ≡ true → parent < count
+inserted-below nodes count parent action s e =
+    let is = shown (actionTest action) _ (inserted-passed nodes count parent action s e) refl in
+    let tree = shown (treeTest nodes count) _ (is .1) refl in
+    ltb-true parent count (shown (nodeTest count parent) _ (tree .1) refl .0)
 
 pub insert-spec : {M : Type 1} → stated.statement M
 unfolding code.routine tablesOf
@@ -50,8 +60,11 @@ insert-spec 𝓤 H 𝓜 𝓖 𝓡 =
     (λ no G out _. sets ! (of-opd ! (opd ! refl)) refl (r-ty .0) $ returns ! Q out refl refl $ return r ys r-is same (inserts ys count parent action answer false (sym b-said ∙ not-true _ no) refl))
     (λ yes.
     let accepted : isInserted r ≡ true = sym b-said ∙ not-false _ yes in
+    let below : parent < count = inserted-below ys count parent action answer accepted in
+    let room : count < length ys = inserted-room ys count parent action answer accepted in
     calls-plain ! 𝓣 then new′ makes (a .1) (are .1) tt (λ _. opd ! refl & opd ! refl & no-more !) (λ n n-is n-ty n-said. lands-in ! refl (n-ty .0) $
     reborrows ! (S .room .0) refl refl refl refl refl refl refl refl $
-    calls-mut 𝓣 S ys ! then put-node′ puts (count, (n, tt)) (are .0, (n-is, tt)) same (inserted-room ys count parent action answer accepted) (λ _ _. opd ! refl & opd ! refl & opd ! refl & no-more !) (λ _ zs _ ty same′ put. lands-in ! refl (ty .0) $
+    -- the place is read off the code: that it is the count is what the records at exit show
+    calls-mut 𝓣 S ys ! then put-node′ puts (_, (n, tt)) ((refl, omega (arith, are .0 .1, below)), (n-is, tt)) same (omega (arith, room, below)) (λ _ _. opd ! refl & opd ! refl & opd ! refl & no-more !) (λ _ zs _ ty same′ put. lands-in ! refl (ty .0) $
     sets ! (of-opd ! (opd ! refl)) refl (r-ty .0) $ returns ! Q refl refl refl $
     return r zs r-is same′ (inserts ys count parent action answer true accepted (put ∙ ap (λ (x : Node). set ys count x) n-said)))))))))

@@ -4,8 +4,7 @@ use native.Mathlib.Nat.{le-antisymm}
 use lib.ListN.{length, length-append}
 use contract.Running.{tablesOf}
 use Rattle.tree.specs.declared.node.Node.{Node}
-use Rattle.tree.specs.Best.{isChild}
-use Rattle.tree.specs.Tree.{nodeAt, childrenOf}
+use Rattle.tree.specs.Tree.{nodeAt, isChild, childrenOf}
 use Rattle.tree.specs.laws.Children.{children-start, children-one, children-none, children-length}
 use Rattle.walks.proofs.Walking.{_≡_, refl, sym, ap, _∙_, ℕ, _+_, _-_, _<_, _≤_, _^_, arith, true, List, [], _∷_, ltb, lit<, ltb-true, ltb-false, tables, _$_, !, lit, of-opd, bin, no-more, cited, usize′, none, has, holding, env, opd, _&_, sets, sets-last, lands-in, keeps, returns, guards, whiles, fat, Shr, Tok, then, calls-shr, calls-plain, shr-proved}
 use Rattle.tree.proofs.Types.{node-at′}

@@ -6,8 +6,7 @@ use contract.Running.{tablesOf}
 use Rattle.text.specs.Over.{over, Put}
 use Rattle.text.specs.laws.Over.{length-over, put-none, put-as, then as and-then}
 use Rattle.tree.specs.declared.node.Node.{Node}
-use Rattle.tree.specs.Best.{isChild}
-use Rattle.tree.specs.Tree.{nodeAt, childrenOf}
+use Rattle.tree.specs.Tree.{nodeAt, isChild, childrenOf}
 use Rattle.tree.specs.laws.Children.{children-start, children-one, children-none, children-length, children-rise}
 use Rattle.walks.proofs.Walking.{_≡_, refl, sym, ap, _∙_, ℕ, _+_, _-_, _<_, _≤_, _^_, arith, true, false, List, [], _∷_, ltb, lit<, ltb-true, ltb-false, tables, _$_, !, ‵, move, lit, of-opd, bin, no-more, cited, usize′, none, has, holding, env, opd, _&_, sets, sets-last, lands-in, lands-last, keeps, returns, guards, whiles, reborrows, fat, Own, Shr, Tok, then, last, calls-shr, calls-mut, calls-plain, both-proved}
 use Rattle.tree.proofs.Types.{node-at′}

@@ -3,7 +3,7 @@
 use mathlib.Core.Path.{sym, subst, _∙_}
 use mathlib.Core.Bool.{not}
 use lib.Dec.{T}
-use lib.Ieee.{isNan}
+use lib.Ieee.{isNan, ofInt, ofBits}
 use Rattle.laws.specs.laws.NoNan.{small-no-nan}
 use Rattle.tree.specs.Sound.{isMaximum}
 use Rattle.tree.specs.laws.Float.{one-small, bits-sign}
@@ -11,10 +11,11 @@ use Rattle.tree.proofs.soundness.is_maximum.Statement.{statement}
 use Rattle.tree.proofs.soundness.is_maximum.Tie as tie
 
 number : (c : tie.Then1) → T (not (isNan (c .before .args .score)))
+unfolding ofInt ofBits
 number c = small-no-nan (c .before .args .score) 1 (one-small (c .before .args .score) (subst T (sym (c .if1 .taken)) tt))
 
 pub is-maximum-spec : {M : Type 1} → statement M
-unfolding isMaximum
+unfolding isMaximum ofInt ofBits
 is-maximum-spec =
     tie.close
     (tie.spec
