@@ -16,46 +16,46 @@ use Rattle.step.specs.Durability.{refreshedTo}
 use Rattle.step.specs.Parts.{stepAfter, progressAfter, usedUp, qualityAfter, quietAfter, durabilityAfter, perfectionAfter, cpAfter, comboAfter}
 use Rattle.step.specs.Parts.{tickedOf, effectOf, mendAfter, perfectedBy, quickAfter}
 
--- 1
+-- 1: the step, and the last action
 unfoldable pub begunOf : CraftState → ℕ → CraftState
 begunOf s n = withStep (stepAfter n (s .step)) (withAction (L.Was n) s)
 
--- 2
+-- 2: progress, which uses up muscle memory
 unfoldable pub progressedOf : CraftContext → CraftState → Amount → CraftState
 progressedOf c s efficiency =
     withProgress (progressAfter c s efficiency)
     (withBuffs (withMuscleMemory (usedUp efficiency (s .buffs .«muscle_memory»)) (s .buffs)) s)
 
--- 3
+-- 3: quality and inner quiet, which use up great strides
 unfoldable pub improvedOf : CraftContext → CraftState → ℕ → Amount → CraftState
 improvedOf c s n efficiency =
     let quieted = withInnerQuiet (quietAfter c s n efficiency) (s .buffs) in
     withQuality (qualityAfter c s n efficiency)
     (withBuffs (withGreatStrides (usedUp efficiency (s .buffs .«great_strides»)) quieted) s)
 
--- 4
+-- 4: durability, and a trained perfection that is spent
 unfoldable pub wornOf : CraftState → Amount → CraftState
 wornOf s cost =
     withDurability (durabilityAfter s cost)
     (withPerfection (perfectionAfter (s .«trained_perfection_active») cost) s)
 
--- 5
+-- 5: what manipulation gives back
 unfoldable pub refreshedOf : CraftContext → CraftState → CraftState
 refreshedOf c s = withDurability (refreshedTo (s .durability) (s .buffs .manipulation) (c .«durability_max»)) s
 
--- 6
+-- 6: points
 unfoldable pub paidOf : CraftState → ℕ → Amount → CraftState
 paidOf s n cost = withCp (cpAfter (s .cp) (s .«previous_combo_action») n cost) s
 
--- 7
+-- 7: the combo
 unfoldable pub combinedOf : CraftState → ℕ → CraftState
 combinedOf s n = withCombo (comboAfter (s .«previous_combo_action») n) s
 
--- 8
+-- 8: the timers
 unfoldable pub timedOf : CraftState → ℕ → CraftState
 timedOf s n = withBuffs (cond (eqb n A.QuickInnovation) (s .buffs) (tickedOf (s .buffs))) s
 
--- 9: the buffs that the action sets, and the whole
+-- 9: effects, first those on the buffs
 abbrev pub buffedOf : CraftState → ℕ → CraftState
 buffedOf s n = withBuffs (effectOf n (s .buffs)) s
 
