@@ -11,3 +11,7 @@ float n = ofInt binary32 (pos n)
 -- so many hundredths, rounded
 abbrev pub hundredths : ℕ → Float
 hundredths n = div binary32 (float n) (float 100)
+
+-- 1
+abbrev pub one : Float
+one = float 1

@@ -12,7 +12,7 @@ use Rattle.craft_state.specs.declared.state.CraftState.{CraftState}
 use Rattle.craft_state.specs.Line.{displayOf}
 use Rattle.craft_state.specs.Start.{startOf}
 use Rattle.step.specs.Step.{executeOf}
-use Rattle.moves.specs.laws.Moves.{plain}
+use Rattle.moves.specs.Modes.{plain}
 use Rattle.score.specs.declared.result.CraftResult.{CraftResult}
 use Rattle.score.specs.declared.result.CraftResult.the-variants as R
 use Rattle.simulator.specs.declared.replay.Replay.{Replay}

@@ -32,6 +32,7 @@ use Rattle.craft_state.specs.laws.Inside.{in-state}
 use Rattle.step.specs.Asked.{Where, Payable, Playable}
 use Rattle.step.specs.Step.{executeOf}
 use Rattle.step.specs.laws.Step.{execute-in, execute-pays}
+use Rattle.moves.specs.Modes.{plain, strict}
 use Rattle.moves.specs.Rules.{affords, mayImprove, eyeAlone, outsideMemory, outsideVeneration, afterObserve, mayProgress, ownRule, strictRule}
 use Rattle.moves.specs.Moves.{strictlyOf, allowedOf, allowsOf, passesOf, ended, movesOf}
 use Rattle.moves.specs.declared.mode.Mode.{Mode}
@@ -167,12 +168,6 @@ module _ (c : CraftContext) (s : CraftState) (mode : Mode) (n : ℕ) (g : CraftI
   legal-pays = execute-pays c s n (attributesOf n) (rows-bounded n h) legal-playable
 
 -- ---- strict moves are a part of the plain ones
-
-abbrev pub plain : Mode
-plain = record { strict = false }
-
-abbrev pub strict : Mode
-strict = record { strict = true }
 
 module _ (c : CraftContext) (s : CraftState) (n : ℕ) (row : Attributes) where
   pub strict-allowed : allowedOf c s strict n row ≡ true → allowedOf c s plain n row ≡ true

@@ -1,6 +1,6 @@
 -- No score is a NaN: each part and their sum are bounded, but for step_max 0, which gives minus infinity. And zero of zero earns the full bonus.
 -- Assumes nothing.
-use mathlib.Core.Path.{_≡_, refl, ap}
+use mathlib.Core.Path.{_≡_, refl, ap, subst}
 use mathlib.Core.Bool.{Bool, true, false, not, cond}
 use Prim.Native.Nat.{ℕ, zero, suc, _-_, _*_, _≤_, _<_}
 use native.Mathlib.Nat.{le-trans, zero-lt-suc}
@@ -9,62 +9,65 @@ use lib.Dec.{T, eqb, lit≤}
 use lib.IntN.{ℤ, pos, negsuc}
 use lib.Ieee.{Float, inf, binary32, ofBits, ofInt, add, sub, mul, div, lt, isNan}
 use lib.Ieee.Exact.{HasValue}
+use Rattle.laws.specs.laws.Floats.{fifth-bits, sixty-five-bits, twentieth-bits}
 use Rattle.laws.specs.laws.Plus.{Plus, plus-of-nat, plus-div}
 use Rattle.laws.specs.laws.Small.{Small, small-more, below-whole, of-nat-small, of-neg-small, of-nat-value, add-small, sub-small, mul-small, div-small}
 use Rattle.laws.specs.laws.NoNan.{small-no-nan, add-minus-inf, over-zero}
+use Rattle.laws.specs.Floats.{float, one}
 use Rattle.craft_context.specs.declared.context.CraftContext.{CraftContext}
-use Rattle.laws.specs.Floats.{float}
 use Rattle.craft_state.specs.declared.state.CraftState.{CraftState}
 use Rattle.craft_state.specs.Limits.{stepMost}
 use Rattle.craft_state.specs.Inside.{DurabilityIn, CraftIn}
-use Rattle.score.specs.Score.{one, progressBonus, qualityBonus, durabilityBonus, cpBonus, fewerStepsBonus, cappedOf, partOf, fewerOf, weighedOf, scoreOf}
+use Rattle.score.specs.Score.{progressBonus, qualityBonus, durabilityBonus, cpBonus, fewerStepsBonus, cappedOf, partOf, fewerOf, weighedOf, scoreOf}
 
 -- ---- zero of zero earns the full bonus
 
-pub progress-full : partOf progressBonus (float 0) (float 0) ≡ progressBonus
-unfolding ofInt ofBits mul div lt
-progress-full = refl
+abbrev Full : Float → Type 0
+Full bonus = partOf bonus (float 0) (float 0) ≡ bonus
 
-pub quality-full : partOf qualityBonus (float 0) (float 0) ≡ qualityBonus
+pub progress-full : Full progressBonus
 unfolding ofInt ofBits mul div lt
-quality-full = refl
+progress-full = subst Full fifth-bits refl
 
-pub durability-full : partOf durabilityBonus (float 0) (float 0) ≡ durabilityBonus
+pub quality-full : Full qualityBonus
 unfolding ofInt ofBits mul div lt
-durability-full = refl
+quality-full = subst Full sixty-five-bits refl
 
-pub cp-full : partOf cpBonus (float 0) (float 0) ≡ cpBonus
+pub durability-full : Full durabilityBonus
 unfolding ofInt ofBits mul div lt
-cp-full = refl
+durability-full = subst Full twentieth-bits refl
 
--- ---- the numbers of the source are at most 1
+pub cp-full : Full cpBonus
+cp-full = durability-full
+
+-- ---- one and the bonuses are at most 1
 
 one-value : HasValue one false 1 1
-unfolding ofBits
+unfolding ofInt
 one-value = (refl, refl)
 
 one-small : Small one 1
-unfolding ofBits
+unfolding ofInt
 one-small = lit≤ tt
 
 progress-small : Small progressBonus 1
-unfolding ofBits
+unfolding ofInt div
 progress-small = lit≤ tt
 
 quality-small : Small qualityBonus 1
-unfolding ofBits
+unfolding ofInt div
 quality-small = lit≤ tt
 
 durability-small : Small durabilityBonus 1
-unfolding ofBits
+unfolding ofInt div
 durability-small = lit≤ tt
 
 cp-small : Small cpBonus 1
-unfolding ofBits
+unfolding ofInt div
 cp-small = lit≤ tt
 
 fewer-steps-small : Small fewerStepsBonus 1
-unfolding ofBits
+unfolding ofInt div
 fewer-steps-small = lit≤ tt
 
 -- ---- the parts
@@ -108,12 +111,12 @@ abbrev lastOf : ℕ → ℕ → Float
 lastOf step most = mul binary32 fewerStepsBonus (fewerOf step most)
 
 bonus-minus-inf : mul binary32 fewerStepsBonus (inf true) ≡ inf true
-unfolding mul ofBits
+unfolding ofInt mul div
 bonus-minus-inf = refl
 
 module _ (step : ℕ) (started : 0 < step) (byte : step ≤ stepMost) where
   fewer-minus-inf : fewerOf step 0 ≡ inf true
-  unfolding ofInt sub ofBits
+  unfolding ofInt sub
   fewer-minus-inf = ap (sub binary32 one) (over-zero binary32 (float step) step started (of-nat-value binary32 step (le-trans byte (lit≤ tt))))
 
   last-minus-inf : (x : Float) → Small x 22 → add binary32 x (lastOf step 0) ≡ inf true

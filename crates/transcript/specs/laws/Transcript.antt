@@ -21,7 +21,7 @@ use Rattle.craft_state.specs.Start.{startOf}
 use Rattle.craft_state.specs.laws.Line.{line-short}
 use Rattle.step.specs.Step.{executeOf}
 use Rattle.moves.specs.Moves.{movesOf}
-use Rattle.moves.specs.laws.Moves.{plain}
+use Rattle.moves.specs.Modes.{plain}
 use Rattle.score.specs.declared.result.CraftResult.{CraftResult}
 use Rattle.score.specs.declared.result.CraftResult.the-variants as R
 use Rattle.simulator.specs.declared.replay.Replay.{Replay}

@@ -1,4 +1,4 @@
--- `score::result::judge` meets its contract.
+-- `score::result::judge` meets its contract: each way out answers what its test gives, where all tests before it failed.
 -- Assumes nothing.
 use mathlib.Core.Path.{ap, _∙_}
 use borrow.Author.Needs.{needs}
@@ -17,23 +17,24 @@ judge-spec =
     (λ c κs. search needs)
     (λ c. (ap Finished (c .score .ensures .0) ∙ simp (le-leb _ _ (c .before .if1 .taken)), c .score .ensures .1))
     (λ c.
-    let e1 = c .before .before .before in
-    let d = room-read (e1 .before .before .before .pre .state .room) in
-    (simp (lt-leb _ _ (e1 .if1 .left), simp (d .0) at (c .if2 .taken)), tt))
+    let e1 = c .before in
+    let d = room-read (e1 .before .before .before .before .before .before .before .pre .state .room) in
+    let t2 = simp (d .0) at (c .if2 .taken) in
+    (simp (lt-leb _ _ (e1 .if1 .left), t2), tt))
     (λ c.
-    let e2 = c .before .before .before in
-    let e1 = e2 .before .before .before in
-    let d = room-read (e1 .before .before .before .pre .state .room) in
-    (simp (lt-leb _ _ (e1 .if1 .left), simp (d .0) at (e2 .if2 .left), le-leb _ _ (c .if3 .taken)), tt))
-    (λ c.
-    let e3 = c .before in
-    let e2 = e3 .before .before .before in
-    let e1 = e2 .before .before .before in
-    let d = room-read (e1 .before .before .before .pre .state .room) in
-    (simp (lt-leb _ _ (e1 .if1 .left), simp (d .0) at (e2 .if2 .left), lt-leb _ _ (e3 .if3 .left), eq-eqb _ _ (c .if4 .taken)), tt))
+    let e2 = c .before in
+    let e1 = e2 .before in
+    let d = room-read (e1 .before .before .before .before .before .before .before .pre .state .room) in
+    (simp (lt-leb _ _ (e1 .if1 .left), simp (d .0) at (e2 .if2 .left), c .if3 .taken), tt))
     (λ c.
     let e3 = c .before in
-    let e2 = e3 .before .before .before in
-    let e1 = e2 .before .before .before in
-    let d = room-read (e1 .before .before .before .pre .state .room) in
-    (simp (lt-leb _ _ (e1 .if1 .left), simp (d .0) at (e2 .if2 .left), lt-leb _ _ (e3 .if3 .left), ne-eqb _ _ (c .if4 .left)), tt)))
+    let e2 = e3 .before in
+    let e1 = e2 .before in
+    let d = room-read (e1 .before .before .before .before .before .before .before .pre .state .room) in
+    (simp (lt-leb _ _ (e1 .if1 .left), simp (d .0) at (e2 .if2 .left), e3 .if3 .left, eq-eqb _ _ (c .if4 .taken)), tt))
+    (λ c.
+    let e3 = c .before in
+    let e2 = e3 .before in
+    let e1 = e2 .before in
+    let d = room-read (e1 .before .before .before .before .before .before .before .pre .state .room) in
+    (simp (lt-leb _ _ (e1 .if1 .left), simp (d .0) at (e2 .if2 .left), e3 .if3 .left, ne-eqb _ _ (c .if4 .left)), tt)))

@@ -10,7 +10,7 @@ use Rattle.text.specs.laws.Over.{then, put-as}
 use Rattle.craft_state.specs.declared.state.CraftState.{CraftState}
 use Rattle.craft_state.specs.Inside.{CraftIn}
 use Rattle.craft_state.specs.laws.Inside.{start-in}
-use Rattle.moves.specs.laws.Moves.{plain}
+use Rattle.moves.specs.Modes.{plain}
 use Rattle.simulator.specs.Promise.{Promise}
 use Rattle.transcript.specs.laws.Transcript.{Played, transcript-is, kept, executed-played}
 use borrow.Author.Needs.{needs}
