@@ -7,9 +7,12 @@ use Prim.Native.Nat.{ℕ, zero, suc, _+_, _≤_, _<_, zero-le}
 use native.Mathlib.Nat.{le-trans, le-refl, le-of-eq, le-antisymm, add-zero, zero-add, le-of-suc-le-suc, not-suc-le-zero, min-eq-left}
 use native.Mathlib.Omega.{arith}
 use lib.Dec.{eqb, ltb, lit≤}
+use lib.IntN.{ℤ}
 use lib.ListN.{length, take, length-take}
+use lib.Signed.{leZ}
 use borrow.Author.Tests.{ltb-true, eqb-true, not-true}
 use Rattle.laws.specs.laws.Tests.{both, and-true, and-false, true-false}
+use Rattle.laws.specs.laws.Raise.{raise-le}
 use Rattle.laws.specs.Bits.{has}
 use Rattle.action.specs.Actions as A
 use Rattle.action.specs.Known.{actions, knownFront}
@@ -18,8 +21,8 @@ use Rattle.craft_context.specs.declared.context.CraftContext.{CraftContext}
 use Rattle.craft_context.specs.Limits.{ContextIn}
 use Rattle.craft_state.specs.declared.state.CraftState.{CraftState}
 use Rattle.craft_state.specs.declared.state.Last.the-variants as L
-use Rattle.craft_state.specs.Limits.{stepLeast, stepMost}
-use Rattle.craft_state.specs.Inside.{CraftIn}
+use Rattle.craft_state.specs.Limits.{stepLeast, stepMost, durabilityLeast}
+use Rattle.craft_state.specs.Inside.{DurabilityIn, CraftIn}
 use Rattle.craft_state.specs.laws.Inside.{start-in}
 use Rattle.craft_state.specs.Start.{startOf}
 use Rattle.step.specs.Step.{executeOf}
@@ -34,6 +37,11 @@ use Rattle.simulator.specs.laws.Replay.{replay-on}
 use Rattle.simulator.specs.Alone.{stepsIn}
 use Rattle.simulator.specs.laws.Alone.{prices-charged}
 use Rattle.simulator.specs.Promise.{after, EachLegal, chargesOf, AfterFirst, Longest, Promise}
+
+-- ---- durability, by the order of whole numbers
+
+in-order : {d most : ℤ} → DurabilityIn d most → (leZ durabilityLeast d ≡ true) × (leZ d most ≡ true)
+in-order {d} {most} r = (raise-le durabilityLeast d (omega (arith, r .from)) (r .from), raise-le d most (omega (arith, r .above)) (r .to))
 
 -- ---- known actions
 
@@ -87,6 +95,20 @@ module _ (c : CraftContext) (mode : Mode) where
       by : (t : Bool) → cond t (s .step) (s .step + 1) + stepsIn rest ≡ s .step + (cond t 0 1 + stepsIn rest)
       by true = omega arith
       by false = omega arith
+
+  -- each starts below step_max, which is at most 255
+  along-top : c .«step_max» ≤ stepMost → (s : CraftState) (list : List ℕ) → s .step ≤ stepMost → CraftIn c s → AllKnown list → EachLegal c mode s list
+      → after c s list .step ≤ stepMost
+  unfolding EachLegal after
+  along-top top s [] b g h l = b
+  along-top top s (n ∷ rest) b g h l =
+      let early = legal-playable c s mode n g (h .0) (l .0) .early in
+      along-top top (executeOf c s n) rest (rw (execute-step c s n (attributesOf n)) (by (eqb n A.QuickInnovation) early))
+      (legal-keeps c s mode n g (h .0) (l .0)) (h .1) (l .1)
+    where
+      by : (t : Bool) → s .step < c .«step_max» → cond t (s .step) (s .step + 1) ≤ stepMost
+      by true early = omega arith
+      by false early = omega arith
 
   -- each raises the step, which is below step_max, but for QuickInnovation, which goes once
   abbrev quickLeft : CraftState → ℕ
@@ -179,7 +201,9 @@ module _ (c : CraftContext) (mode : Mode) where
           points = rw prices (along-points (startOf c) first start (take-known list k known) l);
           charged = prices;
           step = along-step (startOf c) first;
-          durability = g .state .room;
+          stepTo = along-top top (startOf c) first (lit≤ tt) start (take-known list k known) l;
+          durabilityFrom = in-order (g .state .room) .0;
+          durabilityTo = in-order (g .state .room) .1;
           quiet = g .state .buffs .quiet;
           inside = g;
         }
