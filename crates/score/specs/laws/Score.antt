@@ -97,7 +97,8 @@ durability-part-small d (negsuc n) r = absurd (none n (r .above))
   where
     none : (n : ℕ) → 1000 < 999 - n → ⊥
     none n h = omega arith
-durability-part-small (pos a) (pos n) r = small-more (partOf durabilityBonus (float a) (float n)) 1 19 (lit≤ tt) (part-small durabilityBonus a n durability-small)
+durability-part-small (pos a) (pos n) r =
+    small-more (partOf durabilityBonus (float a) (float n)) 1 19 (lit≤ tt) (part-small durabilityBonus a n durability-small)
 durability-part-small (negsuc a) (pos n) r =
     let value : Small (ofInt binary32 (negsuc a)) 19 = of-neg-small binary32 a 19 (omega (arith, r .from)) (lit≤ tt) in
     let wide : Small (ofInt binary32 (negsuc a)) (19 * n) = small-more (ofInt binary32 (negsuc a)) 19 (19 * n) (omega (arith, r .above)) value in
@@ -124,7 +125,8 @@ module _ (step : ℕ) (started : 0 < step) (byte : step ≤ stepMost) where
 
   fewer-small : (most : ℕ) → 0 < most → most ≤ stepMost → Small (fewerOf step most) 256
   fewer-small most some top =
-      let value : Small (float step) (stepMost * most) = small-more (float step) stepMost (stepMost * most) (omega arith) (of-nat-small binary32 step stepMost byte (lit≤ tt)) in
+      let value : Small (float step) (stepMost * most) =
+      small-more (float step) stepMost (stepMost * most) (omega arith) (of-nat-small binary32 step stepMost byte (lit≤ tt)) in
       let target : HasValue (float most) false most 1 = of-nat-value binary32 most (le-trans top (lit≤ tt)) in
       sub-small binary32 one _ 1 stepMost (lit≤ tt) one-small (div-small binary32 _ _ stepMost most (lit≤ tt) some target value)
 
@@ -137,7 +139,8 @@ module _ (step : ℕ) (started : 0 < step) (byte : step ≤ stepMost) where
   unfolding isNan
   last-no-nan x zero p top = rw (last-minus-inf x p) tt
   last-no-nan x (suc n) p top =
-      let last : Small (lastOf step (suc n)) 256 = mul-small binary32 fewerStepsBonus _ 1 256 (lit≤ tt) fewer-steps-small (fewer-small (suc n) (zero-lt-suc n) top) in
+      let last : Small (lastOf step (suc n)) 256 =
+      mul-small binary32 fewerStepsBonus _ 1 256 (lit≤ tt) fewer-steps-small (fewer-small (suc n) (zero-lt-suc n) top) in
       small-no-nan (add binary32 x (lastOf step (suc n))) 278 (add-small binary32 x (lastOf step (suc n)) 22 256 (lit≤ tt) p last)
 
 -- ---- the score
@@ -174,4 +177,5 @@ module _ (context : CraftContext) (state : CraftState) (given : CraftIn context 
     where
       go : (t : Bool) → T (not (isNan (cond t (fewerOf (state .step) (context .«step_max»)) (weighedOf context state))))
       go true = fewer-no-nan (state .step) (given .state .step) byte (context .«step_max») top
-      go false = weighed-last context state given (λ x. T (not (isNan x))) (λ x p. last-no-nan (state .step) (given .state .step) byte x (context .«step_max») p top)
+      go false =
+          weighed-last context state given (λ x. T (not (isNan x))) (λ x p. last-no-nan (state .step) (given .state .step) byte x (context .«step_max») p top)

@@ -9,7 +9,9 @@ use lib.Ieee.{Float, binary32, toBits, ofInt, sub, mul, div, lt}
 use Rattle.laws.specs.Bits.{has, collect}
 use Rattle.laws.specs.Lists.{elem}
 use Rattle.laws.specs.Floats.{float}
-use Rattle.action.specs.Actions.{BasicSynthesis, BasicTouch, Observe, Veneration, StandardTouch, Innovation, BasicSynthesisTraited, ByregotsBlessing, MuscleMemory, CarefulSynthesis, Manipulation, PrudentTouch, AdvancedTouch, Reflect, PreparatoryTouch, Groundwork, CarefulSynthesisTraited, GroundworkTraited, PrudentSynthesis, QuickInnovation, TrainedPerfection}
+use Rattle.action.specs.Actions.{BasicSynthesis, BasicTouch, Observe, Veneration, StandardTouch, Innovation, BasicSynthesisTraited}
+use Rattle.action.specs.Actions.{ByregotsBlessing, MuscleMemory, CarefulSynthesis, Manipulation, PrudentTouch, AdvancedTouch, Reflect}
+use Rattle.action.specs.Actions.{PreparatoryTouch, Groundwork, CarefulSynthesisTraited, GroundworkTraited, PrudentSynthesis, QuickInnovation, TrainedPerfection}
 use Rattle.action.specs.Table.{actionOf}
 use Rattle.action_set.specs.Sets.{setOf}
 use Rattle.craft_context.specs.declared.context.CraftContext.{CraftContext}

@@ -8,5 +8,5 @@ pub capped-spec : {M : Type 1} → statement M
 capped-spec =
     tie.close
     (tie.spec
-    (λ c. rw (← one-bits, c .if1 .taken))
-    (λ c. rw (← one-bits, c .if1 .left)))
+    (λ c. simp (← one-bits, c .if1 .taken))
+    (λ c. simp (← one-bits, c .if1 .left)))

@@ -30,8 +30,15 @@ weighed-spec =
     (λ c κs. tt)
     (λ c.
     let start = c .before .before .before .before .before .before .before .before .before in
-    simp
-    (fifth-bits, sixty-five-bits, twentieth-bits, toZ-ofZ w8 _ (level start), toZ-ofZ w8 _ (most start),
-    c .fewer-steps .ensures, c .before .whole-part3 .ensures, c .before .before .part .ensures,
-    c .before .before .before .before .before .before .before .whole-part2 .ensures,
-    c .before .before .before .before .before .before .before .before .whole-part .ensures)))
+    simp (
+      fifth-bits,
+      sixty-five-bits,
+      twentieth-bits,
+      toZ-ofZ w8 _ (level start),
+      toZ-ofZ w8 _ (most start),
+      c .fewer-steps .ensures,
+      c .before .whole-part3 .ensures,
+      c .before .before .part .ensures,
+      c .before .before .before .before .before .before .before .whole-part2 .ensures,
+      c .before .before .before .before .before .before .before .before .whole-part .ensures,
+    )))

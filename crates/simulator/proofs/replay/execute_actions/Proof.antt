@@ -86,10 +86,11 @@ execute-actions-spec =
     let passed = legal p (not-false _ (c .if3 .left)) in
     let on = place-on _ _ (l .state) (s .args .list .now) (l .i) (omega arith) (known k) (going (k .before .before)) passed in
     let inside = legal-keeps _ (l .state) _ _ (l .inv .2) (known k) (legal-is _ _ (l .state) _ (known k) (going (k .before .before)) passed) in
-    let next = replayFrom (s .args .context) (s .args .mode) in
-    (omega arith,
-    ap (λ (x : CraftState). next x (l .i + 1) (drop (l .i + 1) (s .args .list .now))) (moved c) ∙ sym on ∙ l .inv .1,
-    subst (CraftIn (s .args .context)) (sym (moved c)) inside))
+    let next = replayFrom (s .args .context) (s .args .mode) in (
+      omega arith,
+      ap (λ (x : CraftState). next x (l .i + 1) (drop (l .i + 1) (s .args .list .now))) (moved c) ∙ sym on ∙ l .inv .1,
+      subst (CraftIn (s .args .context)) (sym (moved c)) inside,
+    ))
     (λ c.
     let e = c .before .before in
     let l = e .before .loop in
@@ -105,6 +106,7 @@ execute-actions-spec =
     let l = k .before .before .before .before .loop in
     let s = k .before .before .before .before .before .before .before in
     let out = sym (p .passes .ensures) ∙ not-true _ (t .if3 .taken) in
-    let slipped = place-slip _ _ (l .state) (s .args .list .now) (l .i) (omega arith) (known k) (going (k .before .before)) out in
-    (c .slip .ensures .0 ∙ ap (λ (x : CraftState). slipOf (s .args .context) (s .args .mode) x (l .i)) (stays t) ∙ sym slipped ∙ l .inv .1,
-    c .slip .ensures .1)))
+    let slipped = place-slip _ _ (l .state) (s .args .list .now) (l .i) (omega arith) (known k) (going (k .before .before)) out in (
+      c .slip .ensures .0 ∙ ap (λ (x : CraftState). slipOf (s .args .context) (s .args .mode) x (l .i)) (stays t) ∙ sym slipped ∙ l .inv .1,
+      c .slip .ensures .1,
+    )))
