@@ -18,21 +18,25 @@ discountedBy n C.StandardTouch = eqb n A.AdvancedTouch
 discountedBy n C.RefinedTouch = false
 discountedBy n C.Observe = eqb n A.AdvancedTouch
 
+-- the discount price, or the base
+abbrev pub atDiscount : Bool → ℕ → ℕ
+atDiscount discounted base = cond discounted discountPrice base
+
 abbrev pub priceOf : ℕ → Combo → ℕ → ℕ
-priceOf n combo base = cond (discountedBy n combo) discountPrice base
+priceOf n combo base = atDiscount (discountedBy n combo) base
 
 -- no cost is none under every combo
 abbrev pub chargedOf : ℕ → Combo → Amount → Amount
 chargedOf n combo (Of base) = Of (priceOf n combo base)
 chargedOf n combo Nothing = Nothing
 
--- no cost counts 0
-abbrev pub pointsOf : Amount → ℕ
-pointsOf (Of points) = points
-pointsOf Nothing = 0
+-- in points: no cost counts 0
+abbrev pub pointsOf : Bool → Amount → ℕ
+pointsOf discounted (Of base) = atDiscount discounted base
+pointsOf discounted Nothing = 0
 
 abbrev pub chargeOf : ℕ → Combo → Amount → ℕ
-chargeOf n combo cost = pointsOf (chargedOf n combo cost)
+chargeOf n combo cost = pointsOf (discountedBy n combo) cost
 
 -- so many points are enough for a price; where there is none, any are
 abbrev pub affordable : ℕ → Amount → Bool

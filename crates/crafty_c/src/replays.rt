@@ -4,6 +4,7 @@ ghost use mathlib.Core.List.{[], _∷_};
 ghost use lib.ListN.{length};
 ghost use Rattle.craft_context.specs.Limits.{ContextIn};
 ghost use Rattle.context_line.specs.Shape.{fields};
+ghost use Rattle.moves.specs.Modes.{modeOf};
 ghost use Rattle.crafty_c.specs.Reports.{Reports, TellsNumbers};
 use super::answer::CraftyAnswer;
 use super::answer::done;
@@ -67,7 +68,7 @@ pub extern "C" fn crafty_replay(
     list: &[u8],
     out: &mut [u32],
 ) -> CraftyAnswer
-    ensures { λ r. ⌜ TellsNumbers («player_job_level» ∷ «recipe_job_level» ∷ «base_progress_factor» ∷ «base_quality_factor» ∷ «step_max» ∷ «progress_target» ∷ «starting_quality» ∷ «quality_target» ∷ «durability_max» ∷ «cp_max» ∷ «is_expert» ∷ «action_pool» ∷ «player_is_specialist» ∷ «use_manipulation» ∷ «use_delineation» ∷ []) (record { strict = strict }) (now (list .entry)) (now (out .entry)) r (now (out .exit)) ⌝ }
+    ensures { λ r. ⌜ TellsNumbers («player_job_level» ∷ «recipe_job_level» ∷ «base_progress_factor» ∷ «base_quality_factor» ∷ «step_max» ∷ «progress_target» ∷ «starting_quality» ∷ «quality_target» ∷ «durability_max» ∷ «cp_max» ∷ «is_expert» ∷ «action_pool» ∷ «player_is_specialist» ∷ «use_manipulation» ∷ «use_delineation» ∷ []) (modeOf strict) (now (list .entry)) (now (out .entry)) r (now (out .exit)) ⌝ }
 {
     let values = [
         player_job_level as u64,
@@ -86,5 +87,6 @@ pub extern "C" fn crafty_replay(
         use_manipulation as u64,
         use_delineation as u64,
     ];
-    replay(&values, Mode { strict }, list, out)
+    let mode = moves::mode_of(strict);
+    replay(&values, mode, list, out)
 }

@@ -1,3 +1,4 @@
+pub mod Modes
 pub mod Rules
 pub mod Moves
 pub mod laws

@@ -1,4 +1,4 @@
--- Legal moves: the test of one candidate in a mode, and the set of those that pass.
+-- Document 01, 'Legal moves': the test of one candidate in a mode, and the set of those of the pool that pass; none once the craft is over.
 -- Assumes nothing.
 use mathlib.Core.Bool.{Bool, cond, _&&_, _||_}
 use Prim.Native.Nat.{ℕ}
@@ -28,7 +28,10 @@ strictlyOf c s n row =
 
 -- one candidate by any row
 unfoldable pub allowedOf : CraftContext → CraftState → Mode → ℕ → Attributes → Bool
-allowedOf c s mode n row = affords s n (row .«cp_cost») && mayImprove c s (row .«quality_efficiency») && cond (mode .strict) (strictlyOf c s n row) (ownRule c s n row)
+allowedOf c s mode n row =
+    affords s n (row .«cp_cost»)
+    && mayImprove c s (row .«quality_efficiency»)
+    && cond (mode .strict) (strictlyOf c s n row) (ownRule c s n row)
 
 -- by its row of the table
 abbrev pub allowsOf : CraftContext → CraftState → Mode → ℕ → Bool

@@ -1,4 +1,5 @@
--- The rules of legality, each of a state and a candidate by its row, in the order of the source. A rule holds where the candidate may pass.
+-- Document 01, 'Legal moves': the rules of price and quality, the strict rules in source order, and each action's own rule (craft_state.rs),
+-- of a state and a candidate by its row. A rule holds where the candidate may pass.
 -- Assumes nothing.
 use mathlib.Core.Bool.{Bool, true, false, cond, not, _&&_, _||_}
 use Prim.Native.Nat.{ℕ, _+_, _/_}
@@ -69,7 +70,8 @@ unlessPure s Nothing = eqb (s .buffs .innovation) 0
 -- no finish while quality is below a fifth of its target; what does not finish is no pure progress under innovation
 abbrev pub mayProgress : CraftContext → CraftState → Amount → Amount → Bool
 mayProgress c s (Of efficiency) quality =
-    cond (leb (c .«progress_target») (s .progress + progressGainOf (c .«base_progress_factor») efficiency (s .buffs .veneration) (s .buffs .«muscle_memory»))) (leb (c .«quality_target» / 5) (s .quality)) (unlessPure s quality)
+    let gain = progressGainOf (c .«base_progress_factor») efficiency (s .buffs .veneration) (s .buffs .«muscle_memory») in
+    cond (leb (c .«progress_target») (s .progress + gain)) (leb (c .«quality_target» / 5) (s .quality)) (unlessPure s quality)
 mayProgress c s Nothing quality = true
 
 -- ---- each action's own rule

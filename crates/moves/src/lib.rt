@@ -11,3 +11,4 @@ pub use legal::is_legal;
 pub use legal::legal_moves;
 pub use legal::passes;
 pub use mode::Mode;
+pub use mode::mode_of;

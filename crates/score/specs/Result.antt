@@ -1,4 +1,4 @@
--- The result of a state, checked in document 01's order, with the moves of the call's mode.
+-- Document 01, 'Results and scores', "Checked in order, moves in the call's mode": the result of a state.
 -- Assumes nothing.
 use mathlib.Core.Bool.{cond, not}
 use mathlib.Core.List.{List, [], _∷_}
@@ -19,7 +19,9 @@ use Rattle.score.specs.declared.result.CraftResult.the-variants as R
 unfoldable pub judgedBy : CraftContext → CraftState → ℕ → CraftResult
 judgedBy c s moves =
     cond (leb (c .«progress_target») (s .progress)) (R.Finished (scoreOf c s))
-    (cond (leZ (s .durability) (pos 0)) R.DurabilityFailure (cond (leb (c .«step_max») (s .step)) R.MaxStepsFailure (cond (eqb moves 0) R.InvalidActionFailure R.Continuing)))
+    (cond (leZ (s .durability) (pos 0)) R.DurabilityFailure
+    (cond (leb (c .«step_max») (s .step)) R.MaxStepsFailure
+    (cond (eqb moves 0) R.InvalidActionFailure R.Continuing)))
 
 abbrev pub resultOf : CraftContext → CraftState → Mode → CraftResult
 resultOf c s mode = judgedBy c s (movesOf c s mode)

@@ -1,33 +1,29 @@
--- The score of a state, in the logic's account of IEEE 754: every operation is rounded to binary32.
+-- Document 01, 'Results and scores': the score of a state, in the logic's account of IEEE 754, where every operation is rounded to binary32.
 -- Assumes nothing.
 use mathlib.Core.Bool.{cond}
 use Prim.Native.Nat.{ℕ}
 use lib.Dec.{eqb}
-use lib.Ieee.{Float, binary32, ofBits, ofInt, add, sub, mul, div, lt}
+use lib.Ieee.{Float, binary32, ofInt, add, sub, mul, div, lt}
+use Rattle.laws.specs.Floats.{float, hundredths, one}
 use Rattle.craft_context.specs.declared.context.CraftContext.{CraftContext}
-use Rattle.laws.specs.Floats.{float}
 use Rattle.craft_state.specs.declared.state.CraftState.{CraftState}
-
--- 1.0, an f32 of the source
-abbrev pub one : Float
-one = ofBits binary32 0x3f80_0000
 
 -- ---- the bonuses: 0.20, 0.65, 0.05, 0.05, 0.05
 
 abbrev pub progressBonus : Float
-progressBonus = ofBits binary32 0x3e4c_cccd
+progressBonus = hundredths 20
 
 abbrev pub qualityBonus : Float
-qualityBonus = ofBits binary32 0x3f26_6666
+qualityBonus = hundredths 65
 
 abbrev pub durabilityBonus : Float
-durabilityBonus = ofBits binary32 0x3d4c_cccd
+durabilityBonus = hundredths 5
 
 abbrev pub cpBonus : Float
-cpBonus = ofBits binary32 0x3d4c_cccd
+cpBonus = hundredths 5
 
 abbrev pub fewerStepsBonus : Float
-fewerStepsBonus = ofBits binary32 0x3d4c_cccd
+fewerStepsBonus = hundredths 5
 
 -- ---- the parts
 

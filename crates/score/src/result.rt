@@ -22,13 +22,15 @@ pub fn judge(context: CraftContext, state: CraftState, moves: u32) -> CraftResul
     requires { ⌜ CraftIn context state ⌝ }
     ensures { λ r. ⌜ (r ≡ judgedBy context state moves) × ScoreIsNumber r ⌝ }
 {
+    let is_worn = state.durability <= 0;
+    let is_late = state.step >= context.step_max;
     if state.progress >= context.progress_target {
         return CraftResult::Finished(score(context, state));
     }
-    if state.durability <= 0 {
+    if is_worn {
         return CraftResult::DurabilityFailure;
     }
-    if state.step >= context.step_max {
+    if is_late {
         return CraftResult::MaxStepsFailure;
     }
     if moves == 0 {

@@ -1,14 +1,12 @@
--- What is read from a list of actions alone, with no state in it: the price of each action, and which of them are steps.
+-- Document 01, 'One action', "Seen from the list alone": the price of each action of a list, with no state in it; and which of them are steps.
 -- Assumes nothing.
 use mathlib.Core.Bool.{Bool, cond, _&&_, _||_}
 use mathlib.Core.List.{List, [], _∷_}
 use Prim.Native.Nat.{ℕ, _+_}
 use lib.Dec.{eqb}
 use Rattle.action.specs.Actions as A
-use Rattle.action.specs.Limits.{discountPrice}
+use Rattle.action.specs.Price.{pointsOf}
 use Rattle.action.specs.Table.{attributesOf}
-use Rattle.action.specs.declared.table.Amount.{Amount}
-use Rattle.action.specs.declared.table.Amount.the-variants.{Of, Nothing}
 use Rattle.craft_state.specs.declared.state.Last.{Last}
 use Rattle.craft_state.specs.declared.state.Last.the-variants as L
 use Rattle.craft_state.specs.Limits.{wasOf}
@@ -17,14 +15,11 @@ use Rattle.craft_state.specs.Limits.{wasOf}
 -- StandardTouch directly after BasicTouch; AdvancedTouch directly after Observe, or after a StandardTouch itself directly after BasicTouch
 abbrev pub discountedAfter : Last → Last → ℕ → Bool
 discountedAfter older last n =
-    eqb n A.StandardTouch && wasOf last A.BasicTouch || eqb n A.AdvancedTouch && (wasOf last A.Observe || wasOf last A.StandardTouch && wasOf older A.BasicTouch)
-
-abbrev pub paidFor : Bool → Amount → ℕ
-paidFor discounted (Of cost) = cond discounted discountPrice cost
-paidFor discounted Nothing = 0
+    eqb n A.StandardTouch && wasOf last A.BasicTouch
+    || eqb n A.AdvancedTouch && (wasOf last A.Observe || wasOf last A.StandardTouch && wasOf older A.BasicTouch)
 
 abbrev pub priceAfter : Last → Last → ℕ → ℕ
-priceAfter older last n = paidFor (discountedAfter older last n) (attributesOf n .«cp_cost»)
+priceAfter older last n = pointsOf (discountedAfter older last n) (attributesOf n .«cp_cost»)
 
 unfoldable pub pricesAfter : Last → Last → List ℕ → ℕ
 pricesAfter older last [] = 0

@@ -1,24 +1,31 @@
--- Demand 3: what a replay promises, of the definitions by which the public entries answer. `promised` (PromiseLaws.antt) shows it of every replay.
+-- Document 01, 'What the statements have to say', demand 3: what a replay promises, of the definitions by which the public entries answer.
+-- `promised` (laws/Promise.antt) shows it of every replay.
 -- Assumes nothing.
 use mathlib.Core.Path.{_≡_}
 use mathlib.Core.Bool.{true}
 use mathlib.Core.List.{List, [], _∷_}
-use Prim.Native.Nat.{ℕ, _+_, _≤_}
+use Prim.Native.Nat.{ℕ, _+_, _≤_, _<_}
 use lib.ListN.{length, take}
+use lib.Signed.{leZ}
 use Rattle.laws.specs.Bits.{has}
+use Rattle.action.specs.Known.{actions}
 use Rattle.action.specs.Limits.{quietMost}
 use Rattle.action.specs.Price.{chargeOf}
 use Rattle.action.specs.Table.{attributesOf}
 use Rattle.craft_context.specs.declared.context.CraftContext.{CraftContext}
 use Rattle.craft_state.specs.declared.state.CraftState.{CraftState}
-use Rattle.craft_state.specs.Limits.{stepLeast, stepMost}
-use Rattle.craft_state.specs.Inside.{DurabilityIn, CraftIn}
+use Rattle.craft_state.specs.Limits.{stepLeast, stepMost, durabilityLeast}
+use Rattle.craft_state.specs.Inside.{CraftIn}
 use Rattle.craft_state.specs.Start.{startOf}
 use Rattle.step.specs.Step.{executeOf}
 use Rattle.moves.specs.declared.mode.Mode.{Mode}
 use Rattle.moves.specs.Moves.{movesOf}
 use Rattle.simulator.specs.declared.replay.Replay.{Replay}
 use Rattle.simulator.specs.Alone.{pricesOf, stepsIn}
+
+abbrev pub AllKnown : List ℕ → Type 0
+AllKnown [] = Unit {0}
+AllKnown (n ∷ rest) = (n < actions) × AllKnown rest
 
 -- the state after a list of actions, all executed
 unfoldable pub after : CraftContext → CraftState → List ℕ → CraftState
@@ -44,10 +51,12 @@ pub record AfterFirst (c : CraftContext) (mode : Mode) (list : List ℕ) (k : �
   pub points : after c (startOf c) (take k list) .cp + pricesOf (take k list) ≡ c .«cp_max»
   -- and these prices are what was charged
   pub charged : pricesOf (take k list) ≡ chargesOf c (startOf c) (take k list)
-  -- step is one plus those other than QuickInnovation
+  -- step is one plus those other than QuickInnovation, and at most 255
   pub step : after c (startOf c) (take k list) .step ≡ stepLeast + stepsIn (take k list)
+  pub stepTo : after c (startOf c) (take k list) .step ≤ stepMost
   -- durability is from -19 to its most, and inner quiet at most 10
-  pub durability : DurabilityIn (after c (startOf c) (take k list) .durability) (c .«durability_max»)
+  pub durabilityFrom : leZ durabilityLeast (after c (startOf c) (take k list) .durability) ≡ true
+  pub durabilityTo : leZ (after c (startOf c) (take k list) .durability) (c .«durability_max») ≡ true
   pub quiet : after c (startOf c) (take k list) .buffs .«inner_quiet» ≤ quietMost
   -- the state is inside the limits
   pub inside : CraftIn c (after c (startOf c) (take k list))

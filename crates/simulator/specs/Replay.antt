@@ -1,4 +1,4 @@
--- Replay, by recursion over the list: the state is checked before each action, and an action outside its moves ends it as invalid.
+-- Document 01, 'Results and scores', "Replay checks before each action; an action outside the moves ends it as invalid": by recursion over the list.
 -- Assumes nothing.
 use mathlib.Core.Bool.{Bool, true, false, cond}
 use mathlib.Core.List.{List, [], _∷_}

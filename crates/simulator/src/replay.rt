@@ -1,10 +1,14 @@
 // Replay in a mode: action after action, each tested where it stands.
 ghost use mathlib.Core.Path.{_≡_};
+ghost use mathlib.Core.Bool.{true, cond};
 ghost use Prim.Native.Nat.{_≤_};
 ghost use lib.ListN.{length};
 ghost use Rattle.action.specs.Known.{knownFront};
+ghost use Rattle.action.specs.Table.{attributesOf};
 ghost use Rattle.craft_context.specs.Limits.{ContextIn};
 ghost use Rattle.craft_state.specs.Inside.{CraftIn};
+ghost use Rattle.step.specs.Asked.{Playable};
+ghost use Rattle.step.specs.Step.{executeOf};
 ghost use Rattle.score.specs.Result.{ScoreIsNumber};
 ghost use Rattle.simulator.specs.Replay.{stopOf, slipOf, replayOf};
 use action_set::ActionSet;
@@ -49,6 +53,17 @@ fn slip(context: CraftContext, mode: Mode, state: CraftState, executed: usize) -
     }
 }
 
+// The state after a legal action; an illegal one leaves it as it was.
+fn play(context: CraftContext, state: CraftState, n: u8, legal: bool) -> CraftState
+    requires { ⌜ (legal ≡ true → Playable context state n (attributesOf n)) ⌝ }
+    ensures { λ r. ⌜ r ≡ cond legal (executeOf context state n) state ⌝ }
+{
+    if legal {
+        return step::execute(context, state, n);
+    }
+    state
+}
+
 // One loop, broken with its report where it stops.
 pub fn execute_actions(context: CraftContext, mode: Mode, list: &[u8]) -> Replay
     requires { ⌜ ContextIn context × (length (now list) ≤ knownFront (now list)) ⌝ }
@@ -64,10 +79,11 @@ pub fn execute_actions(context: CraftContext, mode: Mode, list: &[u8]) -> Replay
             break stop(context, mode, state, i);
         }
         let n = list[i];
-        if !moves::passes(context, state, mode, n) {
+        let legal = moves::passes(context, state, mode, n);
+        state = play(context, state, n, legal);
+        if !legal {
             break slip(context, mode, state, i);
         }
-        state = step::execute(context, state, n);
         i += 1;
     };
     report

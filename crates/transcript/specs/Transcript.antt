@@ -1,4 +1,4 @@
--- The text of a plain replay, as the program prints it: the line of the state at the start and after each executed action, and a last line.
+-- Document 01, 'The replay program', "It prints the Display line at the start and after each executed action, then on one line the result".
 -- Assumes nothing.
 use mathlib.Core.List.{List, [], _∷_, _++_}
 use Prim.Native.Nat.{ℕ}
@@ -12,11 +12,12 @@ use Rattle.craft_state.specs.declared.state.CraftState.{CraftState}
 use Rattle.craft_state.specs.Line.{displayOf}
 use Rattle.craft_state.specs.Start.{startOf}
 use Rattle.step.specs.Step.{executeOf}
-use Rattle.moves.specs.laws.Moves.{plain}
+use Rattle.moves.specs.Modes.{plain}
 use Rattle.score.specs.declared.result.CraftResult.{CraftResult}
 use Rattle.score.specs.declared.result.CraftResult.the-variants as R
 use Rattle.simulator.specs.declared.replay.Replay.{Replay}
 use Rattle.simulator.specs.Replay.{replayOf}
+use Rattle.simulator.specs.Promise.{AllKnown, EachLegal}
 
 -- a state's line, and byte 10
 unfoldable pub rowOf : CraftContext → CraftState → List ℕ
@@ -26,6 +27,11 @@ rowOf c s = displayOf c s ++ bytes "\n"
 unfoldable pub rowsOf : CraftContext → CraftState → List ℕ → List ℕ
 rowsOf c s [] = []
 rowsOf c s (n ∷ rest) = rowOf c (executeOf c s n) ++ rowsOf c (executeOf c s n) rest
+
+-- asked of such a list: known actions, each legal where it stands
+pub record Played (c : CraftContext) (s : CraftState) (part : List ℕ) : Type 0 where
+  pub known : AllKnown part
+  pub legal : EachLegal c plain s part
 
 -- the score by the eight digits of its bits
 unfoldable pub finishedOf : Float → List ℕ

@@ -30,6 +30,7 @@ use Rattle.craft_state.specs.laws.Inside.{in-state}
 use Rattle.step.specs.Asked.{Where, Payable, Playable}
 use Rattle.step.specs.Step.{executeOf}
 use Rattle.step.specs.laws.Step.{execute-in, execute-pays}
+use Rattle.moves.specs.Modes.{plain, strict}
 use Rattle.moves.specs.Rules.{affords, mayImprove, eyeAlone, outsideMemory, outsideVeneration, afterObserve, mayProgress, ownRule, strictRule}
 use Rattle.moves.specs.Moves.{strictlyOf, allowedOf, allowsOf, passesOf, ended, movesOf}
 use Rattle.moves.specs.declared.mode.Mode.{Mode}
@@ -71,15 +72,21 @@ module _ (c : CraftContext) (s : CraftState) (n : ℕ) (row : Attributes) where
     where
       rules : Bool
       rules =
-          outsideMemory c s (row .«quality_efficiency») && outsideVeneration s (row .«progress_efficiency») (row .«quality_efficiency») && afterObserve s n && mayProgress c s (row .«progress_efficiency») (row .«quality_efficiency»)
+          outsideMemory c s (row .«quality_efficiency»)
+          && outsideVeneration s (row .«progress_efficiency») (row .«quality_efficiency»)
+          && afterObserve s n
+          && mayProgress c s (row .«progress_efficiency») (row .«quality_efficiency»)
 
-      by : (b : Bool) → (b ≡ true → eqb n A.TrainedEye ≡ true → ownRule c s n row ≡ true) → cond b (eqb n A.TrainedEye) (rules && ownRule c s n row && strictRule c s n) ≡ true → ownRule c s n row ≡ true
+      by : (b : Bool) → (b ≡ true → eqb n A.TrainedEye ≡ true → ownRule c s n row ≡ true)
+          → cond b (eqb n A.TrainedEye) (rules && ownRule c s n row && strictRule c s n) ≡ true
+          → ownRule c s n row ≡ true
       by true f t = f refl t
       by false f t = both rules (ownRule c s n row) (both (rules && ownRule c s n row) (strictRule c s n) t .0) .1
 
 -- ---- what a legal candidate rests on, by any row
 
-affords-payable : (s : CraftState) (n : ℕ) (row : Attributes) → RowBounds n row → affords s n (row .«cp_cost») ≡ true → Payable (s .cp) (s .«previous_combo_action») n (row .«cp_cost»)
+affords-payable : (s : CraftState) (n : ℕ) (row : Attributes) → RowBounds n row → affords s n (row .«cp_cost») ≡ true
+    → Payable (s .cp) (s .«previous_combo_action») n (row .«cp_cost»)
 affords-payable s n row bounds = by (row .«cp_cost») refl
   where
     by : (cost : Amount) → row .«cp_cost» ≡ cost → affords s n cost ≡ true → Payable (s .cp) (s .«previous_combo_action») n cost
@@ -103,10 +110,16 @@ going c s e =
     record { below = leb-false _ _ (first .0); early = leb-false _ _ (first .1); alive = last .1 }
 
 module _ (c : CraftContext) (s : CraftState) (mode : Mode) (n : ℕ) (row : Attributes) where
+  abbrev before : Bool
+  before = affords s n (row .«cp_cost») && mayImprove c s (row .«quality_efficiency»)
+
+  abbrev inMode : Bool
+  inMode = cond (mode .strict) (strictlyOf c s n row) (ownRule c s n row)
+
   -- the price test and the test of quality stand before all others
   allowed-parts : allowedOf c s mode n row ≡ true → (affords s n (row .«cp_cost») ≡ true) × (mayImprove c s (row .«quality_efficiency») ≡ true)
   unfolding allowedOf
-  allowed-parts t = both (affords s n (row .«cp_cost»)) (mayImprove c s (row .«quality_efficiency»)) (both (affords s n (row .«cp_cost») && mayImprove c s (row .«quality_efficiency»)) (cond (mode .strict) (strictlyOf c s n row) (ownRule c s n row)) t .0)
+  allowed-parts t = both (affords s n (row .«cp_cost»)) (mayImprove c s (row .«quality_efficiency»)) (both before inMode t .0)
 
   pub allowed-playable : RowBounds n row → CraftIn c s → n < actions → Going c s → allowedOf c s mode n row ≡ true → Playable c s n row
   allowed-playable bounds g h k t =
@@ -125,7 +138,7 @@ module _ (c : CraftContext) (s : CraftState) (mode : Mode) (n : ℕ) (row : Attr
 
   pub allowed-own : allowedOf c s mode n row ≡ true → ownRule c s n row ≡ true
   unfolding allowedOf
-  allowed-own t = by (mode .strict) (both (affords s n (row .«cp_cost») && mayImprove c s (row .«quality_efficiency»)) (cond (mode .strict) (strictlyOf c s n row) (ownRule c s n row)) t .1)
+  allowed-own t = by (mode .strict) (both before inMode t .1)
     where
       by : (b : Bool) → cond b (strictlyOf c s n row) (ownRule c s n row) ≡ true → ownRule c s n row ≡ true
       by true t = strictly-own c s n row t
@@ -137,7 +150,8 @@ module _ (c : CraftContext) (s : CraftState) (mode : Mode) (n : ℕ) (g : CraftI
   pub legal-playable : Playable c s n (attributesOf n)
   legal-playable =
       let parts = both (not (ended c s)) (passesOf c s mode n) (sym (has-moves c s mode n h) ∙ t) in
-      allowed-playable c s mode n (attributesOf n) (rows-bounded n h) g h (going c s (not-true (ended c s) (parts .0))) (both (has (c .«action_pool» .0) n) (allowsOf c s mode n) (parts .1) .1)
+      let allowed = both (has (c .«action_pool» .0) n) (allowsOf c s mode n) (parts .1) .1 in
+      allowed-playable c s mode n (attributesOf n) (rows-bounded n h) g h (going c s (not-true (ended c s) (parts .0))) allowed
 
   pub legal-affordable : chargeOf n (s .«previous_combo_action») (attributesOf n .«cp_cost») ≤ s .cp
   legal-affordable = legal-playable .payable
@@ -161,12 +175,6 @@ module _ (c : CraftContext) (s : CraftState) (mode : Mode) (n : ℕ) (g : CraftI
   legal-pays = execute-pays c s n (attributesOf n) (rows-bounded n h) legal-playable
 
 -- ---- strict moves are a part of the plain ones
-
-abbrev pub plain : Mode
-plain = record { strict = false }
-
-abbrev pub strict : Mode
-strict = record { strict = true }
 
 module _ (c : CraftContext) (s : CraftState) (n : ℕ) (row : Attributes) where
   pub strict-allowed : allowedOf c s strict n row ≡ true → allowedOf c s plain n row ≡ true

@@ -1,6 +1,6 @@
 -- No score is a NaN: each part and their sum are bounded, but for step_max 0, which gives minus infinity. And zero of zero earns the full bonus.
 -- Assumes nothing.
-use mathlib.Core.Path.{_≡_, refl, ap}
+use mathlib.Core.Path.{_≡_, refl, ap, subst}
 use mathlib.Core.Bool.{Bool, true, false, not, cond}
 use Prim.Native.Nat.{ℕ, zero, suc, _-_, _*_, _≤_, _<_}
 use native.Mathlib.Nat.{le-trans, zero-lt-suc}
@@ -9,63 +9,66 @@ use lib.Dec.{T, eqb, lit≤}
 use lib.IntN.{ℤ, pos, negsuc}
 use lib.Ieee.{Float, inf, binary32, ofBits, ofInt, add, sub, mul, div, lt, isNan}
 use lib.Ieee.Exact.{HasValue}
+use Rattle.laws.specs.laws.Floats.{fifth-bits, sixty-five-bits, twentieth-bits}
 use Rattle.laws.specs.laws.Plus.{Plus, plus-of-nat, plus-div}
 use Rattle.laws.specs.laws.Small.{Small, small-more, below-whole, of-nat-small, of-neg-small, of-nat-value, add-small, sub-small, mul-small, div-small}
 use Rattle.laws.specs.laws.NoNan.{small-no-nan, add-minus-inf, over-zero}
+use Rattle.laws.specs.Floats.{float, one}
 use Rattle.craft_context.specs.declared.context.CraftContext.{CraftContext}
-use Rattle.laws.specs.Floats.{float}
 use Rattle.craft_state.specs.declared.state.CraftState.{CraftState}
 use Rattle.craft_state.specs.Limits.{stepMost}
 use Rattle.craft_state.specs.Inside.{DurabilityIn, CraftIn}
 use Rattle.craft_state.specs.laws.Inside.{raised}
-use Rattle.score.specs.Score.{one, progressBonus, qualityBonus, durabilityBonus, cpBonus, fewerStepsBonus, cappedOf, partOf, fewerOf, weighedOf, scoreOf}
+use Rattle.score.specs.Score.{progressBonus, qualityBonus, durabilityBonus, cpBonus, fewerStepsBonus, cappedOf, partOf, fewerOf, weighedOf, scoreOf}
 
 -- ---- zero of zero earns the full bonus
 
-pub progress-full : partOf progressBonus (float 0) (float 0) ≡ progressBonus
-unfolding ofInt ofBits mul div lt
-progress-full = refl
+abbrev Full : Float → Type 0
+Full bonus = partOf bonus (float 0) (float 0) ≡ bonus
 
-pub quality-full : partOf qualityBonus (float 0) (float 0) ≡ qualityBonus
+pub progress-full : Full progressBonus
 unfolding ofInt ofBits mul div lt
-quality-full = refl
+progress-full = subst Full fifth-bits refl
 
-pub durability-full : partOf durabilityBonus (float 0) (float 0) ≡ durabilityBonus
+pub quality-full : Full qualityBonus
 unfolding ofInt ofBits mul div lt
-durability-full = refl
+quality-full = subst Full sixty-five-bits refl
 
-pub cp-full : partOf cpBonus (float 0) (float 0) ≡ cpBonus
+pub durability-full : Full durabilityBonus
 unfolding ofInt ofBits mul div lt
-cp-full = refl
+durability-full = subst Full twentieth-bits refl
 
--- ---- the numbers of the source are at most 1
+pub cp-full : Full cpBonus
+cp-full = durability-full
+
+-- ---- one and the bonuses are at most 1
 
 one-value : HasValue one false 1 1
-unfolding ofBits
+unfolding ofInt
 one-value = (refl, refl)
 
 one-small : Small one 1
-unfolding ofBits
+unfolding ofInt
 one-small = lit≤ tt
 
 progress-small : Small progressBonus 1
-unfolding ofBits
+unfolding ofInt div
 progress-small = lit≤ tt
 
 quality-small : Small qualityBonus 1
-unfolding ofBits
+unfolding ofInt div
 quality-small = lit≤ tt
 
 durability-small : Small durabilityBonus 1
-unfolding ofBits
+unfolding ofInt div
 durability-small = lit≤ tt
 
 cp-small : Small cpBonus 1
-unfolding ofBits
+unfolding ofInt div
 cp-small = lit≤ tt
 
 fewer-steps-small : Small fewerStepsBonus 1
-unfolding ofBits
+unfolding ofInt div
 fewer-steps-small = lit≤ tt
 
 -- ---- the parts
@@ -95,7 +98,8 @@ durability-part-small d (negsuc n) h = absurd (none n (raised h .above))
   where
     none : (n : ℕ) → 1000 < 999 - n → ⊥
     none n h = omega arith
-durability-part-small (pos a) (pos n) h = small-more (partOf durabilityBonus (float a) (float n)) 1 19 (lit≤ tt) (part-small durabilityBonus a n durability-small)
+durability-part-small (pos a) (pos n) h =
+    small-more (partOf durabilityBonus (float a) (float n)) 1 19 (lit≤ tt) (part-small durabilityBonus a n durability-small)
 durability-part-small (negsuc a) (pos n) h =
     let r = raised h in
     let value : Small (ofInt binary32 (negsuc a)) 19 = of-neg-small binary32 a 19 (omega (arith, r .from)) (lit≤ tt) in
@@ -110,12 +114,12 @@ abbrev lastOf : ℕ → ℕ → Float
 lastOf step most = mul binary32 fewerStepsBonus (fewerOf step most)
 
 bonus-minus-inf : mul binary32 fewerStepsBonus (inf true) ≡ inf true
-unfolding mul ofBits
+unfolding ofInt mul div
 bonus-minus-inf = refl
 
 module _ (step : ℕ) (started : 0 < step) (byte : step ≤ stepMost) where
   fewer-minus-inf : fewerOf step 0 ≡ inf true
-  unfolding ofInt sub ofBits
+  unfolding ofInt sub
   fewer-minus-inf = ap (sub binary32 one) (over-zero binary32 (float step) step started (of-nat-value binary32 step (le-trans byte (lit≤ tt))))
 
   last-minus-inf : (x : Float) → Small x 22 → add binary32 x (lastOf step 0) ≡ inf true
@@ -123,7 +127,8 @@ module _ (step : ℕ) (started : 0 < step) (byte : step ≤ stepMost) where
 
   fewer-small : (most : ℕ) → 0 < most → most ≤ stepMost → Small (fewerOf step most) 256
   fewer-small most some top =
-      let value : Small (float step) (stepMost * most) = small-more (float step) stepMost (stepMost * most) (omega arith) (of-nat-small binary32 step stepMost byte (lit≤ tt)) in
+      let value : Small (float step) (stepMost * most) =
+      small-more (float step) stepMost (stepMost * most) (omega arith) (of-nat-small binary32 step stepMost byte (lit≤ tt)) in
       let target : HasValue (float most) false most 1 = of-nat-value binary32 most (le-trans top (lit≤ tt)) in
       sub-small binary32 one _ 1 stepMost (lit≤ tt) one-small (div-small binary32 _ _ stepMost most (lit≤ tt) some target value)
 
@@ -136,7 +141,8 @@ module _ (step : ℕ) (started : 0 < step) (byte : step ≤ stepMost) where
   unfolding isNan
   last-no-nan x zero p top = rw (last-minus-inf x p) tt
   last-no-nan x (suc n) p top =
-      let last : Small (lastOf step (suc n)) 256 = mul-small binary32 fewerStepsBonus _ 1 256 (lit≤ tt) fewer-steps-small (fewer-small (suc n) (zero-lt-suc n) top) in
+      let last : Small (lastOf step (suc n)) 256 =
+      mul-small binary32 fewerStepsBonus _ 1 256 (lit≤ tt) fewer-steps-small (fewer-small (suc n) (zero-lt-suc n) top) in
       small-no-nan (add binary32 x (lastOf step (suc n))) 278 (add-small binary32 x (lastOf step (suc n)) 22 256 (lit≤ tt) p last)
 
 -- ---- the score
@@ -173,4 +179,5 @@ module _ (context : CraftContext) (state : CraftState) (given : CraftIn context 
     where
       go : (t : Bool) → T (not (isNan (cond t (fewerOf (state .step) (context .«step_max»)) (weighedOf context state))))
       go true = fewer-no-nan (state .step) (given .state .step) byte (context .«step_max») top
-      go false = weighed-last context state given (λ x. T (not (isNan x))) (λ x p. last-no-nan (state .step) (given .state .step) byte x (context .«step_max») p top)
+      go false =
+          weighed-last context state given (λ x. T (not (isNan x))) (λ x p. last-no-nan (state .step) (given .state .step) byte x (context .«step_max») p top)

@@ -4,7 +4,7 @@ use mathlib.Core.Path.{_≡_, refl}
 use mathlib.Core.Bool.{false}
 use Prim.Native.Nat.{ℕ}
 use lib.IntN.{ℤ, pos, negsuc}
-use lib.Ieee.{binary32, ofBits, toBits, ofInt, add, sub, mul, div, lt}
+use lib.Ieee.{binary32, toBits, ofInt, add, sub, mul, div, lt}
 use Rattle.action.specs.declared.price.Combo.the-variants as C
 use Rattle.craft_context.specs.declared.context.CraftContext.{CraftContext}
 use Rattle.laws.specs.Floats.{float}
@@ -51,30 +51,30 @@ state step progress quality durability points =
 
 -- P9: cp 0 of 0
 p9 : toBits binary32 (partOf cpBonus (float 0) (float 0)) ≡ 0x3d4c_cccd
-unfolding toBits ofInt ofBits mul div lt
+unfolding toBits ofInt mul div lt
 p9 = refl
 
 -- the replay program's example
 example : toBits binary32 (scoreOf (craft 8 200 0 (pos 40) 100) (state 4 300 0 (pos 20) 82)) ≡ 0x3f00_0000
-unfolding scoreOf toBits ofInt ofBits sub div
+unfolding scoreOf toBits ofInt sub div
 example = refl
 
 -- added from right to left it would be 3F0F5F70
 all-parts : toBits binary32 (scoreOf (craft 20 1000 1000 (pos 40) 200) (state 4 1200 417 (pos 10) 146)) ≡ 0x3f0f_5f6f
-unfolding scoreOf weighedOf toBits ofInt ofBits add sub mul div lt
+unfolding scoreOf weighedOf toBits ofInt add sub mul div lt
 all-parts = refl
 
 -- durability -19 of 1, and cp 0 of 0
 below-zero : toBits binary32 (scoreOf (craft 20 1000 1000 (pos 1) 0) (state 7 1200 450 (negsuc 18) 0)) ≡ 0xbebf_ffff
-unfolding scoreOf weighedOf toBits ofInt ofBits add sub mul div lt
+unfolding scoreOf weighedOf toBits ofInt add sub mul div lt
 below-zero = refl
 
 -- past step_max
 late : toBits binary32 (scoreOf (craft 8 200 0 (pos 40) 100) (state 9 300 0 (pos 20) 82)) ≡ 0xbe00_0000
-unfolding scoreOf toBits ofInt ofBits sub div
+unfolding scoreOf toBits ofInt sub div
 late = refl
 
 -- step_max 0: minus infinity
 no-steps : toBits binary32 (scoreOf (craft 0 200 10 (pos 40) 100) (state 4 300 5 (pos 20) 82)) ≡ 0xff80_0000
-unfolding scoreOf weighedOf toBits ofInt ofBits add sub mul div lt
+unfolding scoreOf weighedOf toBits ofInt add sub mul div lt
 no-steps = refl

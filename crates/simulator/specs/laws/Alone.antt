@@ -7,10 +7,8 @@ use Prim.Native.Nat.{ℕ}
 use lib.Dec.{eqb}
 use borrow.Author.Tests.{eqb-true}
 use Rattle.action.specs.Actions as A
-use Rattle.action.specs.Price.{discountedBy, chargeOf}
+use Rattle.action.specs.Price.{discountedBy, pointsOf, chargeOf}
 use Rattle.action.specs.Table.{attributesOf}
-use Rattle.action.specs.declared.table.Amount.{Amount}
-use Rattle.action.specs.declared.table.Amount.the-variants.{Of, Nothing}
 use Rattle.action.specs.declared.price.Combo.{Combo}
 use Rattle.action.specs.declared.price.Combo.the-variants as C
 use Rattle.craft_context.specs.declared.context.CraftContext.{CraftContext}
@@ -21,7 +19,7 @@ use Rattle.craft_state.specs.Limits.{wasOf}
 use Rattle.step.specs.Parts.{onBasicTouch, comboAfter}
 use Rattle.step.specs.Step.{executeOf}
 use Rattle.step.specs.laws.Step.{execute-combo}
-use Rattle.simulator.specs.Alone.{discountedAfter, paidFor, priceAfter, pricesAfter}
+use Rattle.simulator.specs.Alone.{discountedAfter, priceAfter, pricesAfter}
 use Rattle.simulator.specs.Promise.{chargesOf}
 
 -- a combo that stands for whether the action before was BasicTouch
@@ -88,14 +86,16 @@ module _ (older : Last) (n : ℕ) where
   abbrev Same : ℕ → Type 0
   Same m = discountedBy n (comboFrom older (L.Was m)) ≡ discountedAfter older (L.Was m) n
 
-  same-standard : (b : Bool) → discountedBy n (cond b C.StandardTouch C.Nothing) ≡ eqb n A.StandardTouch && false || eqb n A.AdvancedTouch && (false || true && b)
+  same-standard : (b : Bool)
+      → discountedBy n (cond b C.StandardTouch C.Nothing) ≡ eqb n A.StandardTouch && false || eqb n A.AdvancedTouch && (false || true && b)
   same-standard true = after-standard (eqb n A.StandardTouch) (eqb n A.AdvancedTouch)
   same-standard false = after-none (eqb n A.StandardTouch) (eqb n A.AdvancedTouch) true
 
   same-other : (m : ℕ) → eqb m A.BasicTouch ≡ false → eqb m A.Observe ≡ false → eqb m A.StandardTouch ≡ false → Same m
   same-other m p q r = rw (p, q, r) (by (eqb m A.RefinedTouch && onBasicTouch (opened (wasOf older A.BasicTouch))))
     where
-      by : (y : Bool) → discountedBy n (cond y C.RefinedTouch C.Nothing) ≡ eqb n A.StandardTouch && false || eqb n A.AdvancedTouch && (false || false && wasOf older A.BasicTouch)
+      by : (y : Bool)
+          → discountedBy n (cond y C.RefinedTouch C.Nothing) ≡ eqb n A.StandardTouch && false || eqb n A.AdvancedTouch && (false || false && wasOf older A.BasicTouch)
       by true = after-none (eqb n A.StandardTouch) (eqb n A.AdvancedTouch) (wasOf older A.BasicTouch)
       by false = after-none (eqb n A.StandardTouch) (eqb n A.AdvancedTouch) (wasOf older A.BasicTouch)
 
@@ -116,18 +116,16 @@ discount-same older L.Nothing n = after-none (eqb n A.StandardTouch) (eqb n A.Ad
 discount-same older (L.Was m) n = same-at older n m
 
 price-same : (older last : Last) (n : ℕ) → priceAfter older last n ≡ chargeOf n (comboFrom older last) (attributesOf n .«cp_cost»)
-price-same older last n = by (attributesOf n .«cp_cost»)
-  where
-    by : (cost : Amount) → paidFor (discountedAfter older last n) cost ≡ chargeOf n (comboFrom older last) cost
-    by (Of cost) = rw (discount-same older last n)
-    by Nothing = refl
+price-same older last n = ap (λ (discounted : Bool). pointsOf discounted (attributesOf n .«cp_cost»)) (sym (discount-same older last n))
 
 -- ---- the whole list, from a state whose combo is that of the last two actions
 
-pub prices-charged : (c : CraftContext) (s : CraftState) (older last : Last) (list : List ℕ) → s .«previous_combo_action» ≡ comboFrom older last → pricesAfter older last list ≡ chargesOf c s list
+pub prices-charged : (c : CraftContext) (s : CraftState) (older last : Last) (list : List ℕ) → s .«previous_combo_action» ≡ comboFrom older last
+    → pricesAfter older last list ≡ chargesOf c s list
 unfolding pricesAfter chargesOf
 prices-charged c s older last [] e = refl
 prices-charged c s older last (n ∷ rest) e =
     let first : priceAfter older last n ≡ chargeOf n (s .«previous_combo_action») (attributesOf n .«cp_cost») = rw e (price-same older last n) in
-    let next : executeOf c s n .«previous_combo_action» ≡ comboFrom last (L.Was n) = execute-combo c s n (attributesOf n) ∙ ap (λ (combo : Combo). comboAfter combo n) e ∙ next-combo older last n in
+    let next : executeOf c s n .«previous_combo_action» ≡ comboFrom last (L.Was n) =
+    execute-combo c s n (attributesOf n) ∙ ap (λ (combo : Combo). comboAfter combo n) e ∙ next-combo older last n in
     rw (first, prices-charged c (executeOf c s n) last (L.Was n) rest next)

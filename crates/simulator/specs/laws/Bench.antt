@@ -5,11 +5,13 @@ use mathlib.Core.Bool.{Bool, true, false}
 use mathlib.Core.List.{List, [], _∷_, map}
 use Prim.Native.Nat.{ℕ}
 use lib.IntN.{ℤ, pos, negsuc}
-use lib.Ieee.{Float, binary32, toBits, ofBits, ofInt, sub, mul, div, lt}
+use lib.Ieee.{Float, binary32, toBits, ofInt, sub, mul, div, lt}
 use Rattle.laws.specs.Bits.{has, collect}
 use Rattle.laws.specs.Lists.{elem}
 use Rattle.laws.specs.Floats.{float}
-use Rattle.action.specs.Actions.{BasicSynthesis, BasicTouch, Observe, Veneration, StandardTouch, Innovation, BasicSynthesisTraited, ByregotsBlessing, MuscleMemory, CarefulSynthesis, Manipulation, PrudentTouch, AdvancedTouch, Reflect, PreparatoryTouch, Groundwork, CarefulSynthesisTraited, GroundworkTraited, PrudentSynthesis, QuickInnovation, TrainedPerfection}
+use Rattle.action.specs.Actions.{BasicSynthesis, BasicTouch, Observe, Veneration, StandardTouch, Innovation, BasicSynthesisTraited}
+use Rattle.action.specs.Actions.{ByregotsBlessing, MuscleMemory, CarefulSynthesis, Manipulation, PrudentTouch, AdvancedTouch, Reflect}
+use Rattle.action.specs.Actions.{PreparatoryTouch, Groundwork, CarefulSynthesisTraited, GroundworkTraited, PrudentSynthesis, QuickInnovation, TrainedPerfection}
 use Rattle.action.specs.Table.{actionOf}
 use Rattle.action_set.specs.Sets.{setOf}
 use Rattle.craft_context.specs.declared.context.CraftContext.{CraftContext}
@@ -20,7 +22,7 @@ use Rattle.step.specs.Step.{begunOf, progressedOf, improvedOf, wornOf, refreshe
 use Rattle.moves.specs.declared.mode.Mode.{Mode}
 use Rattle.moves.specs.Rules.{ownRule, strictRule}
 use Rattle.moves.specs.Moves.{strictlyOf, allowedOf, movesOf}
-use Rattle.moves.specs.laws.Moves.{plain, strict}
+use Rattle.moves.specs.Modes.{plain, strict}
 use Rattle.score.specs.Score.{cpBonus, partOf, weighedOf, scoreOf}
 use Rattle.score.specs.Result.{judgedBy, verdictOf, scoresIn}
 use Rattle.simulator.specs.declared.replay.Replay.{Replay}
@@ -216,5 +218,5 @@ pub bench-crafts : map workedOf table ≡ map saidOf table
 unfolding table elem
     replayOf replayFrom stopOf slipOf startOf movesOf allowedOf strictlyOf ownRule strictRule has collect
     executedOf begunOf progressedOf improvedOf wornOf refreshedOf paidOf combinedOf timedOf affectedOf tickedOf effectOf actionOf
-    judgedBy scoreOf weighedOf toBits ofBits ofInt sub mul div lt
+    judgedBy scoreOf weighedOf toBits ofInt sub mul div lt
 bench-crafts = refl

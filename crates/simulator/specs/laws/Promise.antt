@@ -7,9 +7,12 @@ use Prim.Native.Nat.{ℕ, zero, suc, _+_, _≤_, _<_, zero-le}
 use native.Mathlib.Nat.{le-trans, le-refl, le-of-eq, le-antisymm, add-zero, zero-add, le-of-suc-le-suc, not-suc-le-zero, min-eq-left}
 use native.Mathlib.Omega.{arith}
 use lib.Dec.{eqb, ltb, lit≤}
+use lib.IntN.{ℤ}
 use lib.ListN.{length, take, length-take}
+use lib.Signed.{leZ}
 use borrow.Author.Tests.{ltb-true, eqb-true, not-true}
 use Rattle.laws.specs.laws.Tests.{both, and-true, and-false, true-false}
+use Rattle.laws.specs.laws.Raise.{raise-le}
 use Rattle.laws.specs.Bits.{has}
 use Rattle.action.specs.Actions as A
 use Rattle.action.specs.Known.{actions, knownFront}
@@ -18,8 +21,8 @@ use Rattle.craft_context.specs.declared.context.CraftContext.{CraftContext}
 use Rattle.craft_context.specs.Limits.{ContextIn}
 use Rattle.craft_state.specs.declared.state.CraftState.{CraftState}
 use Rattle.craft_state.specs.declared.state.Last.the-variants as L
-use Rattle.craft_state.specs.Limits.{stepLeast, stepMost}
-use Rattle.craft_state.specs.Inside.{CraftIn}
+use Rattle.craft_state.specs.Limits.{stepLeast, stepMost, durabilityLeast}
+use Rattle.craft_state.specs.Inside.{DurabilityIn, CraftIn}
 use Rattle.craft_state.specs.laws.Inside.{start-in}
 use Rattle.craft_state.specs.Start.{startOf}
 use Rattle.step.specs.Step.{executeOf}
@@ -33,20 +36,17 @@ use Rattle.simulator.specs.Replay.{goesOn, stopOf, slipOf, replayFrom, r
 use Rattle.simulator.specs.laws.Replay.{replay-on}
 use Rattle.simulator.specs.Alone.{stepsIn}
 use Rattle.simulator.specs.laws.Alone.{prices-charged}
-use Rattle.simulator.specs.Promise.{after, EachLegal, chargesOf, AfterFirst, Longest, Promise}
+use Rattle.simulator.specs.Promise.{after, AllKnown, EachLegal, chargesOf, AfterFirst, Longest, Promise}
 
 -- ---- known actions
-
-abbrev pub AllKnown : List ℕ → Type 0
-AllKnown [] = Unit {0}
-AllKnown (n ∷ rest) = (n < actions) × AllKnown rest
 
 pub all-known : (list : List ℕ) → length list ≤ knownFront list → AllKnown list
 unfolding knownFront
 all-known [] h = tt
 all-known (n ∷ rest) h = by (ltb n actions) (ltb-true n actions) (all-known rest) h
   where
-    by : (b : Bool) → (b ≡ true → n < actions) → (length rest ≤ knownFront rest → AllKnown rest) → suc (length rest) ≤ cond b (suc (knownFront rest)) 0 → AllKnown (n ∷ rest)
+    by : (b : Bool) → (b ≡ true → n < actions) → (length rest ≤ knownFront rest → AllKnown rest)
+        → suc (length rest) ≤ cond b (suc (knownFront rest)) 0 → AllKnown (n ∷ rest)
     by true f later h = (f refl, later (le-of-suc-le-suc h))
     by false f later h = absurd (not-suc-le-zero h)
 
@@ -88,15 +88,32 @@ module _ (c : CraftContext) (mode : Mode) where
       by true = omega arith
       by false = omega arith
 
+  -- each starts below step_max, which is at most 255
+  along-top : c .«step_max» ≤ stepMost → (s : CraftState) (list : List ℕ) → s .step ≤ stepMost → CraftIn c s → AllKnown list → EachLegal c mode s list
+      → after c s list .step ≤ stepMost
+  unfolding EachLegal after
+  along-top top s [] b g h l = b
+  along-top top s (n ∷ rest) b g h l =
+      let early = legal-playable c s mode n g (h .0) (l .0) .early in
+      along-top top (executeOf c s n) rest (rw (execute-step c s n (attributesOf n)) (by (eqb n A.QuickInnovation) early))
+      (legal-keeps c s mode n g (h .0) (l .0)) (h .1) (l .1)
+    where
+      by : (t : Bool) → s .step < c .«step_max» → cond t (s .step) (s .step + 1) ≤ stepMost
+      by true early = omega arith
+      by false early = omega arith
+
   -- each raises the step, which is below step_max, but for QuickInnovation, which goes once
   abbrev quickLeft : CraftState → ℕ
   quickLeft s = cond (s .«quick_innovation_available») 1 0
 
-  along-few : c .«step_max» ≤ stepMost → (s : CraftState) (list : List ℕ) → s .step ≤ stepMost → CraftIn c s → AllKnown list → EachLegal c mode s list → length list + s .step ≤ stepMost + quickLeft s
+  along-few : c .«step_max» ≤ stepMost → (s : CraftState) (list : List ℕ) → s .step ≤ stepMost → CraftIn c s → AllKnown list → EachLegal c mode s list
+      → length list + s .step ≤ stepMost + quickLeft s
   unfolding EachLegal
   along-few top s [] b g h l = omega arith
   along-few top s (n ∷ rest) b given h l =
-      by (eqb n A.QuickInnovation) refl (λ b. along-few top (executeOf c s n) rest b (legal-keeps c s mode n given (h .0) (l .0)) (h .1) (l .1)) (legal-playable c s mode n given (h .0) (l .0) .early)
+      by (eqb n A.QuickInnovation) refl
+      (λ b. along-few top (executeOf c s n) rest b (legal-keeps c s mode n given (h .0) (l .0)) (h .1) (l .1))
+      (legal-playable c s mode n given (h .0) (l .0) .early)
     where
       Later : Type 0
       Later = executeOf c s n .step ≤ stepMost → length rest + executeOf c s n .step ≤ stepMost + quickLeft (executeOf c s n)
@@ -112,7 +129,8 @@ module _ (c : CraftContext) (mode : Mode) where
           omega (arith, later (omega arith))
       by false e later early =
           let more : executeOf c s n .step ≡ s .step + 1 = execute-step c s n (attributesOf n) ∙ rw e in
-          let same : executeOf c s n .«quick_innovation_available» ≡ s .«quick_innovation_available» = execute-quick c s n (attributesOf n) ∙ rw e (and-true (s .«quick_innovation_available»)) in
+          let same : executeOf c s n .«quick_innovation_available» ≡ s .«quick_innovation_available» =
+          execute-quick c s n (attributesOf n) ∙ rw e (and-true (s .«quick_innovation_available»)) in
           let kept : quickLeft (executeOf c s n) ≡ quickLeft s = ap (λ (b : Bool). cond b 1 0) same in
           omega (arith, later (omega arith))
 
@@ -134,7 +152,8 @@ module _ (c : CraftContext) (mode : Mode) where
   run s k [] h = record { executed = sym (add-zero k); state = refl; part = le-refl 0; legal = tt; longest = λ j p l. p }
   run s k (n ∷ rest) h = by (has (movesOf c s mode) n) refl (run (executeOf c s n) (k + 1) rest (h .1))
     where
-      by : (b : Bool) → has (movesOf c s mode) n ≡ b → Run (executeOf c s n) (k + 1) rest (lead (executeOf c s n) rest) → Run s k (n ∷ rest) (cond b (suc (lead (executeOf c s n) rest)) 0)
+      by : (b : Bool) → has (movesOf c s mode) n ≡ b → Run (executeOf c s n) (k + 1) rest (lead (executeOf c s n) rest)
+          → Run s k (n ∷ rest) (cond b (suc (lead (executeOf c s n) rest)) 0)
       by true t r =
           let parts = both (not (ended c s)) (passesOf c s mode n) (sym (has-moves c s mode n (h .0)) ∙ t) in
           let on = replay-on c mode s n (h .0) k rest (not-true (ended c s) (parts .0)) (parts .1) in
@@ -179,7 +198,9 @@ module _ (c : CraftContext) (mode : Mode) where
           points = rw prices (along-points (startOf c) first start (take-known list k known) l);
           charged = prices;
           step = along-step (startOf c) first;
-          durability = g .state .durability;
+          stepTo = along-top top (startOf c) first (lit≤ tt) start (take-known list k known) l;
+          durabilityFrom = g .state .durability .from;
+          durabilityTo = g .state .durability .to;
           quiet = g .state .buffs .quiet;
           inside = g;
         }

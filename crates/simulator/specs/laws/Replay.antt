@@ -36,7 +36,8 @@ module _ (c : CraftContext) (mode : Mode) (s : CraftState) where
   ended-stops = by (leb (c .«progress_target») (s .progress)) (leb (c .«step_max») (s .step)) (leZ (s .durability) (pos 0)) (eqb (movesOf c s mode) 0)
     where
       by : (a b d m : Bool) → a || b || d ≡ true
-          → goesOn (cond a (R.Finished (scoreOf c s)) (cond d R.DurabilityFailure (cond b R.MaxStepsFailure (cond m R.InvalidActionFailure R.Continuing)))) ≡ false
+          → goesOn (cond a (R.Finished (scoreOf c s)) (cond d R.DurabilityFailure (cond b R.MaxStepsFailure (cond m R.InvalidActionFailure R.Continuing))))
+          ≡ false
       by true b d m e = refl
       by false b true m e = refl
       by false true false m e = refl
@@ -47,7 +48,8 @@ module _ (c : CraftContext) (mode : Mode) (s : CraftState) where
   going-result = by (leb (c .«progress_target») (s .progress)) (leb (c .«step_max») (s .step)) (leZ (s .durability) (pos 0))
     where
       by : (a b d : Bool) → a || b || d ≡ false
-          → cond a (R.Finished (scoreOf c s)) (cond d R.DurabilityFailure (cond b R.MaxStepsFailure (cond (eqb (movesOf c s mode) 0) R.InvalidActionFailure R.Continuing)))
+          → cond a (R.Finished (scoreOf c s))
+          (cond d R.DurabilityFailure (cond b R.MaxStepsFailure (cond (eqb (movesOf c s mode) 0) R.InvalidActionFailure R.Continuing)))
           ≡ cond (eqb (movesOf c s mode) 0) R.InvalidActionFailure R.Continuing
       by false false false e = refl
       by true b d e = absurd (true-false e)
@@ -68,7 +70,8 @@ module _ (c : CraftContext) (mode : Mode) (s : CraftState) where
     pub legal-is : {b : Bool} → ended c s ≡ false → passesOf c s mode n ≡ b → has (movesOf c s mode) n ≡ b
     legal-is e p = has-moves c s mode n h ∙ rw e p
 
-    pub replay-on : (k : ℕ) (rest : List ℕ) → ended c s ≡ false → passesOf c s mode n ≡ true → replayFrom c mode s k (n ∷ rest) ≡ replayFrom c mode (executeOf c s n) (k + 1) rest
+    pub replay-on : (k : ℕ) (rest : List ℕ) → ended c s ≡ false → passesOf c s mode n ≡ true
+        → replayFrom c mode s k (n ∷ rest) ≡ replayFrom c mode (executeOf c s n) (k + 1) rest
     unfolding replayFrom
     replay-on k rest e p = rw (legal-on n e (legal-is e p), legal-is e p)
 
@@ -76,7 +79,9 @@ module _ (c : CraftContext) (mode : Mode) (s : CraftState) where
     unfolding replayFrom stopOf slipOf
     replay-slip k rest e p = rw (legal-is e p, going-result e) (by (eqb (movesOf c s mode) 0))
       where
-        by : (b : Bool) → cond (goesOn (cond b R.InvalidActionFailure R.Continuing)) (slipOf c mode s k) (record { state = s; moves = record { 0 = movesOf c s mode }; result = cond b R.InvalidActionFailure R.Continuing; executed = k })
+        by : (b : Bool)
+            → cond (goesOn (cond b R.InvalidActionFailure R.Continuing)) (slipOf c mode s k)
+            (record { state = s; moves = record { 0 = movesOf c s mode }; result = cond b R.InvalidActionFailure R.Continuing; executed = k })
             ≡ record { state = s; moves = record { 0 = movesOf c s mode }; result = R.InvalidActionFailure; executed = k }
         by true = refl
         by false = refl
@@ -97,7 +102,8 @@ module _ (c : CraftContext) (mode : Mode) (s : CraftState) where
         → replayFrom c mode s i (drop i list) ≡ replayFrom c mode (executeOf c s (getD list i 0)) (i + 1) (drop (i + 1) list)
     place-on l h e p = ap (replayFrom c mode s i) (drop-at list i l) ∙ replay-on (getD list i 0) h i (drop (i + 1) list) e p
 
-    pub place-slip : i < length list → getD list i 0 < actions → ended c s ≡ false → passesOf c s mode (getD list i 0) ≡ false → replayFrom c mode s i (drop i list) ≡ slipOf c mode s i
+    pub place-slip : i < length list → getD list i 0 < actions → ended c s ≡ false → passesOf c s mode (getD list i 0) ≡ false
+        → replayFrom c mode s i (drop i list) ≡ slipOf c mode s i
     place-slip l h e p = ap (replayFrom c mode s i) (drop-at list i l) ∙ replay-slip (getD list i 0) h i (drop (i + 1) list) e p
 
     pub place-end : i ≤ length list → length list ≤ i → replayFrom c mode s i (drop i list) ≡ stopOf c mode s i

@@ -21,20 +21,17 @@ use Rattle.craft_state.specs.Start.{startOf}
 use Rattle.craft_state.specs.laws.Line.{line-short}
 use Rattle.step.specs.Step.{executeOf}
 use Rattle.moves.specs.Moves.{movesOf}
-use Rattle.moves.specs.laws.Moves.{plain}
+use Rattle.moves.specs.Modes.{plain}
 use Rattle.score.specs.declared.result.CraftResult.{CraftResult}
 use Rattle.score.specs.declared.result.CraftResult.the-variants as R
 use Rattle.simulator.specs.declared.replay.Replay.{Replay}
 use Rattle.simulator.specs.Replay.{replayOf}
-use Rattle.simulator.specs.Promise.{EachLegal, Promise}
-use Rattle.simulator.specs.laws.Promise.{AllKnown, all-known, take-known, promised}
-use Rattle.transcript.specs.Transcript.{rowOf, rowsOf, finishedOf, resultTextOf, lastOf, reportedOf, transcriptOf, rowMost, resultMost, lastMost, transcriptMost}
+use Rattle.simulator.specs.Promise.{AllKnown, EachLegal, Promise}
+use Rattle.simulator.specs.laws.Promise.{all-known, take-known, promised}
+use Rattle.transcript.specs.Transcript.{rowOf, rowsOf, Played, finishedOf, resultTextOf, lastOf, reportedOf, transcriptOf}
+use Rattle.transcript.specs.Transcript.{rowMost, resultMost, lastMost, transcriptMost}
 
 -- ---- a part of known actions that are each legal where they stand
-
-pub record Played (c : CraftContext) (s : CraftState) (part : List ℕ) : Type 0 where
-  pub known : AllKnown part
-  pub legal : EachLegal c plain s part
 
 -- at place i: its action is known and legal
 module _ (c : CraftContext) (s : CraftState) (part : List ℕ) {i : ℕ} (h : i < length part) where
@@ -92,7 +89,8 @@ result-short R.InvalidActionFailure = omega arith
 result-short R.Continuing = omega arith
 
 -- the text of a result by the result that it is found to be
-pub result-put : {result found : CraftResult} {out after : List ℕ} {at r : ℕ} → result ≡ found → Put out at (resultTextOf found) r after → Put out at (resultTextOf result) r after × (r ≤ at + resultMost)
+pub result-put : {result found : CraftResult} {out after : List ℕ} {at r : ℕ} → result ≡ found → Put out at (resultTextOf found) r after
+    → Put out at (resultTextOf result) r after × (r ≤ at + resultMost)
 result-put {found = found} e p = (put-as (sym (ap resultTextOf e)) p, omega (arith, p .next, result-short found))
 
 pub last-short : (result : CraftResult) (executed listed : ℕ) → length (lastOf result executed listed) ≤ lastMost

@@ -5,7 +5,7 @@ use mathlib.Core.Bool.{false}
 use mathlib.Core.List.{List, [], _∷_, _++_}
 use Prim.Native.Nat.{ℕ}
 use Prim.Native.String.{String}
-use lib.Ieee.{toBits, ofBits, ofInt, sub, div}
+use lib.Ieee.{toBits, ofInt, sub, div}
 use lib.IntN.{pos}
 use Rattle.laws.specs.Bits.{has, collect}
 use Rattle.laws.specs.Lists.{elem}
@@ -59,5 +59,5 @@ unfolding transcriptOf reportedOf rowOf rowsOf lastOf resultTextOf finishedOf
     displayOf shareOf signedShareOf rightOf decimalOf signedOf hexOf
     replayOf replayFrom stopOf slipOf startOf movesOf allowedOf strictlyOf ownRule strictRule has collect elem
     executedOf begunOf progressedOf improvedOf wornOf refreshedOf paidOf combinedOf timedOf affectedOf tickedOf effectOf actionOf
-    judgedBy scoreOf toBits ofBits ofInt sub div
+    judgedBy scoreOf toBits ofInt sub div
 example = refl

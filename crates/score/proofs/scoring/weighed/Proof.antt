@@ -4,6 +4,7 @@ use borrow.Author.Needs.{needs}
 use mir.Syntax.{w8}
 use mir.Val.{SFits}
 use mir.ValLaws.{toZ-ofZ}
+use Rattle.laws.specs.laws.Floats.{fifth-bits, sixty-five-bits, twentieth-bits}
 use Rattle.score.specs.Score.{weighedOf}
 use Rattle.score.proofs.scoring.weighed.Statement.{statement}
 use Rattle.score.proofs.scoring.weighed.Tie as tie
@@ -29,4 +30,15 @@ weighed-spec =
     (λ c κs. tt)
     (λ c.
     let start = c .before .before .before .before .before .before .before .before .before in
-    simp (c .fewer-steps .ensures, c .before .whole-part3 .ensures, c .before .before .part .ensures, toZ-ofZ w8 _ (level start), toZ-ofZ w8 _ (most start), c .before .before .before .before .before .before .before .whole-part2 .ensures, c .before .before .before .before .before .before .before .before .whole-part .ensures)))
+    simp (
+      fifth-bits,
+      sixty-five-bits,
+      twentieth-bits,
+      toZ-ofZ w8 _ (level start),
+      toZ-ofZ w8 _ (most start),
+      c .fewer-steps .ensures,
+      c .before .whole-part3 .ensures,
+      c .before .before .part .ensures,
+      c .before .before .before .before .before .before .before .whole-part2 .ensures,
+      c .before .before .before .before .before .before .before .before .whole-part .ensures,
+    )))

@@ -7,9 +7,10 @@ use lib.ListN.{length, drop}
 use Rattle.text.specs.Over.{over}
 use Rattle.text.specs.laws.Over.{over-none}
 use Rattle.craft_state.specs.Inside.{CraftIn}
-use Rattle.moves.specs.laws.Moves.{plain, legal-playable, legal-keeps}
-use Rattle.transcript.specs.Transcript.{rowMost, rowsOf}
-use Rattle.transcript.specs.laws.Transcript.{Played, next-known, next-legal, rest-played, rows-over, rows-count, rows-end, rows-short}
+use Rattle.moves.specs.Modes.{plain}
+use Rattle.moves.specs.laws.Moves.{legal-playable, legal-keeps}
+use Rattle.transcript.specs.Transcript.{rowMost, rowsOf, Played}
+use Rattle.transcript.specs.laws.Transcript.{next-known, next-legal, rest-played, rows-over, rows-count, rows-end, rows-short}
 use Rattle.transcript.proofs.rows.put_rows.Statement.{statement}
 use Rattle.transcript.proofs.rows.put_rows.Tie as tie
 
