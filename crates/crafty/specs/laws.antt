@@ -1,3 +1,5 @@
 pub mod Lists
 pub mod Program
+pub mod Verdicts
 pub mod OneAnswer
+pub mod Total
