@@ -75,7 +75,7 @@ function read_word(text,   part) {
     return part[4] "@" part[3]
 }
 
-# Every parameter stands there once, in front of the answer; then the answer; then, each once and in order, what was lent. Sets `lent_at`.
+# Every parameter stands there once, in front of the answer; then the answer; then, each once and in order, what was lent. `lent_at` is its place at entry.
 function applied_form(text,   word, size, i, k, form, depth, arguments, answered, left, seen, equation) {
     size = split(text, word, " ")
     equation = word[1] == "r" && word[2] == "≡"
@@ -112,6 +112,7 @@ function place_of(text, words,   k) {
 # `numbers` are those of the refusals, as the page has them, or none for the law of one answer.
 function check_law(entry, law, form, numbers,   wanted, rest, kind) {
     rest = type[law]
+    lent_name = ""
     read_variables(rest)
     sub(/^(\([A-Za-z ]+ : [^()]*\) )*(→ )?/, "", rest)
     kind = rest
@@ -141,7 +142,7 @@ function read_variables(text,   group, part, size, i) {
     }
 }
 
-# The law's numbers are the page's, in its order, and what it says is lent is what the contract lends: `lent_name` has to stand at `lent_at`.
+# The law's numbers are the page's, in its order; `lent_name` is what it says is lent, which has to stand where the contract lends something.
 function past_numbers(entry, law, text, numbers,   said) {
     if (!match(text, /^[a-zA-Z]+ \([^()]*\) /)) return ""
     said = substr(text, 1, RLENGTH)
@@ -149,7 +150,6 @@ function past_numbers(entry, law, text, numbers,   said) {
     gsub(/^[a-zA-Z]+ \(| ∷ \[\]\) $/, "", said)
     gsub(/ ∷ /, ", ", said)
     if (said != numbers) print entry ": its law " law " has the refusals " said ", and the page " numbers
-    lent_name = ""
     if (lent_at) {
         lent_name = text
         sub(/ .*/, "", lent_name)
@@ -168,10 +168,10 @@ function stated_form(text, law_file,   word, size, i, form, seen, used) {
         if ((word[i] in bound) && !seen[word[i]]++) {
             used++
             form = form " _"
-            if (lent_name == word[i] && i - 1 != lent_at) return ""
         } else if (word[i] ~ /^[A-Z][A-Za-z]*\.[A-Z][A-Za-z]*$/) form = form " " constant(word[i], law_file)
         else return ""
     }
+    if (lent_name != "" && word[lent_at + 1] != lent_name) return ""
     return used == variables ? form : ""
 }
 
