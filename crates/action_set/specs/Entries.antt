@@ -14,6 +14,7 @@ use Rattle.laws.specs.Bits.{has}
 use Rattle.text.specs.Over.{over}
 use Rattle.action.specs.Known.{listTest}
 use Rattle.action_set.specs.Sets.{setTest, memberTests, setOf, withOf, withoutOf, sizeOf, highestOf, membersOf}
+use Rattle.action_set.specs.declared.ActionSet.{ActionSet}
 use Rattle.action_set.specs.declared.Changed.{Changed}
 use Rattle.action_set.specs.declared.Changed.the-variants as C
 use Rattle.action_set.specs.declared.Asked.{Asked}
@@ -68,6 +69,9 @@ list = record { told = listedTold; refused = L.Refused; refusing = λ x. refl }
 -- the answer that is a set
 abbrev pub aSet : ℕ → Changed
 aSet s = C.Set (record { 0 = s })
+
+abbrev pub emptySet : ActionSet
+emptySet = record { 0 = 0 }
 
 abbrev pub ChecksSet : ℕ → Checked → Type 0
 ChecksSet s r = Checks (setTest s ∷ []) r

@@ -2,7 +2,7 @@
 ghost use mathlib.Core.Path.{_≡_};
 ghost use Rattle.refusal.specs.Judge.{checksOf};
 ghost use Rattle.action_set.specs.Sets.{memberTests};
-ghost use Rattle.action_set.specs.Entries.{ChecksSet, FromBits, FromList, Contains, Added, Removed, Len, IsEmpty, HighestIs, Members};
+ghost use Rattle.action_set.specs.Entries.{emptySet, ChecksSet, FromBits, FromList, Contains, Added, Removed, Len, IsEmpty, HighestIs, Members};
 use refusal::Checked;
 use refusal::Refusal;
 
@@ -47,7 +47,7 @@ impl ActionSet {
 
     // The empty set.
     pub fn new() -> ActionSet
-        ensures { λ r. ⌜ r .0 ≡ 0 ⌝ }
+        ensures { λ r. ⌜ r ≡ emptySet ⌝ }
     {
         ActionSet(0)
     }

@@ -1,5 +1,6 @@
 pub mod Room
 pub mod Actions
+pub mod Verdicts
 pub mod States
 pub mod Replays
 pub mod Lists

@@ -1,13 +1,12 @@
 -- Text into lent room: what an entry that writes answers, and what the room holds then.
 -- Assumes nothing.
-use mathlib.Core.Path.{_≡_, refl, subst, _∙_}
+use mathlib.Core.Path.{refl}
 use mathlib.Core.List.{List, [], _∷_, _++_}
-use Prim.Native.Nat.{ℕ, _≤_}
-use borrow.Author.Tests.{le-leb}
+use Prim.Native.Nat.{ℕ}
 use lib.ListN.{length}
 use Rattle.refusal.specs.declared.Report.{Report}
 use Rattle.refusal.specs.Report.{reportOf, success}
-use Rattle.refusal.specs.Judge.{Kind, Test, judged, Writes, roomTest}
+use Rattle.refusal.specs.Judge.{Kind, Test, Writes, roomTest}
 use Rattle.text.specs.Over.{over}
 use Rattle.crafty.specs.declared.room.Written.{Written}
 use Rattle.crafty.specs.declared.room.Written.the-variants.{Length, Refused}
@@ -25,12 +24,3 @@ WritesText tests text out r after = Writes written (tests ++ (roomTest (length o
 
 abbrev pub Fits : List ℕ → List ℕ → Written → List ℕ → Type 0
 Fits text out r after = WritesText [] text out r after
-
--- the same of an equal text
-pub fits-as : {text u out after : List ℕ} {r : Written} → text ≡ u → Fits text out r after → Fits u out r after
-fits-as {text} {u} {out} {after} {r} e f = subst (λ (t : List ℕ). Fits t out r after) e f
-
--- a room that is long enough is never refused
-pub fits-length : (text : List ℕ) {out after : List ℕ} {r : Written} → length text ≤ length out → Fits text out r after → r ≡ Length (length text)
-unfolding judged
-fits-length text {out} h f = f .says .same ∙ rw (le-leb (length text) (length out) h)

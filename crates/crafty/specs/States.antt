@@ -1,6 +1,6 @@
 -- What each public entry over states answers, for any context, state, mode and number: its tests in the order of the refusals, then its answer.
 -- Assumes nothing.
-use mathlib.Core.Path.{refl}
+use mathlib.Core.Path.{_≡_, refl}
 use mathlib.Core.Bool.{not}
 use mathlib.Core.List.{List, [], _∷_, _++_}
 use Prim.Native.Nat.{ℕ}
@@ -10,7 +10,7 @@ use Rattle.laws.specs.Bits.{has}
 use Rattle.refusal.specs.declared.Report.{Report}
 use Rattle.refusal.specs.declared.Refusal.the-variants.{IllegalAction}
 use Rattle.refusal.specs.Report.{reportOf, success}
-use Rattle.refusal.specs.Judge.{Kind, Test, Says}
+use Rattle.refusal.specs.Judge.{Kind, Test, judged, Says}
 use Rattle.action.specs.Known.{actionTest}
 use Rattle.craft_context.specs.declared.context.CraftContext.{CraftContext}
 use Rattle.craft_state.specs.declared.state.CraftState.{CraftState}
@@ -22,6 +22,7 @@ use Rattle.moves.specs.Moves.{movesOf}
 use Rattle.score.specs.Score.{scoreOf}
 use Rattle.score.specs.Result.{resultOf, ScoreIsNumber}
 use Rattle.crafty.specs.Room.{WritesText}
+use Rattle.crafty.specs.Verdicts.{Verdict, verdictIn}
 use Rattle.crafty.specs.declared.room.Written.{Written}
 use Rattle.crafty.specs.declared.states.Allowed.{Allowed}
 use Rattle.crafty.specs.declared.states.Allowed.the-variants as A
@@ -48,7 +49,6 @@ steppedTold (S.Refused x) = reportOf x
 abbrev pub stepped : Kind Stepped
 stepped = record { told = steppedTold; refused = S.Refused; refusing = λ x. refl }
 
--- the five results have their own numbers, verdictOf
 abbrev resultTold : Judged → Report
 resultTold (J.Result result) = success
 resultTold (J.Refused x) = reportOf x
@@ -84,8 +84,17 @@ abbrev NumberIn : Scored → Type 0
 NumberIn (C.Score score) = T (not (isNan score))
 NumberIn (C.Refused x) = Unit {0}
 
-abbrev pub HasResult : CraftContext → CraftState → Mode → Judged → Type 0
-HasResult context state mode r = Says resulted (givenTests context state) (J.Result (resultOf context state mode)) r × ScoreIsNumberIn r
+-- the result's number and score, and none where the call is refused
+abbrev pub verdictsOf : Judged → List Verdict
+verdictsOf (J.Result result) = verdictIn result ∷ []
+verdictsOf (J.Refused x) = []
+
+pub record HasResult (context : CraftContext) (state : CraftState) (mode : Mode) (r : Judged) : Type 0 where
+  -- refusal 1, then refusal 2; else the result that the definition gives
+  pub says : Says resulted (givenTests context state) (J.Result (resultOf context state mode)) r
+  -- by its number, 0 to 4, and with its score
+  pub verdict : verdictsOf r ≡ judged (λ x. []) (verdictIn (resultOf context state mode) ∷ []) (givenTests context state)
+  pub score : ScoreIsNumberIn r
 
 abbrev pub HasScore : CraftContext → CraftState → Scored → Type 0
 HasScore context state r = Says scored (givenTests context state) (C.Score (scoreOf context state)) r × NumberIn r

@@ -1,3 +1,6 @@
+pub mod Room
 pub mod Lists
 pub mod Program
+pub mod Verdicts
 pub mod OneAnswer
+pub mod Total

@@ -1,3 +1,4 @@
 pub mod Answer
 pub mod Trees
 pub mod OneAnswer
+pub mod Total

@@ -1,3 +1,4 @@
 pub mod Report
 pub mod Judge
+pub mod Demands
 pub mod laws

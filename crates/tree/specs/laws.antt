@@ -1,5 +1,6 @@
 pub mod Float
 pub mod Node
+pub mod Nan
 pub mod Tree
 pub mod Climb
 pub mod Back

@@ -1,7 +1,7 @@
 -- One answer: for each public entry, two answers that meet its statement are equal, and so is what they leave in lent room or records.
 -- A line to each entry, named after it: the general law, applied to the statement that stands in the entry's `ensures`.
 -- Assumes nothing.
-use mathlib.Core.Path.{_≡_, sym, ap, _∙_}
+use mathlib.Core.Path.{_≡_, sym, _∙_}
 use mathlib.Core.List.{List}
 use mathlib.Core.Bool.{Bool}
 use Prim.Native.Nat.{ℕ}
@@ -11,11 +11,12 @@ use Rattle.refusal.specs.declared.Refusal.{Refusal}
 use Rattle.refusal.specs.declared.Report.{Report}
 use Rattle.refusal.specs.Report.{reportOf}
 use Rattle.refusal.specs.Judge.{Kind, Test, Says, Writes}
+use Rattle.refusal.specs.Demands.{OneAnswer, OneOutcome}
 use Rattle.refusal.specs.laws.Judge.{one-answer, one-outcome}
 use Rattle.action.specs.declared.price.Combo.{Combo}
 use Rattle.action.specs.declared.texts.Text.the-variants as T
 use Rattle.action_set.specs.declared.ActionSet.{ActionSet}
-use Rattle.action_set.specs.Entries.{ChecksSet, FromBits, FromList, Contains, Added, Removed, Len, IsEmpty, HighestIs, Members}
+use Rattle.action_set.specs.Entries.{emptySet, ChecksSet, FromBits, FromList, Contains, Added, Removed, Len, IsEmpty, HighestIs, Members}
 use Rattle.craft_context.specs.declared.context.CraftContext.{CraftContext}
 use Rattle.craft_context.specs.declared.sheet.Player.{Player}
 use Rattle.craft_context.specs.declared.sheet.Recipe.{Recipe}
@@ -38,13 +39,6 @@ use Rattle.crafty.specs.States.{HasMoves, Steps, HasResult, HasScore, Ha
 use Rattle.crafty.specs.Replays.{Replays}
 use Rattle.crafty.specs.Lists.{ReadsList, WritesList, Lasts}
 use Rattle.crafty.specs.Program.{ReplaysText, Prints}
-
--- a statement that one answer meets; and one that one answer meets, with what was lent at exit
-abbrev pub OneAnswer : {A : Type 0} → (A → Type 0) → Type 0
-OneAnswer {A} statement = (r s : A) → statement r → statement s → r ≡ s
-
-abbrev pub OneOutcome : {A B : Type 0} → (A → B → Type 0) → Type 0
-OneOutcome {A} {B} statement = (r s : A) (after later : B) → statement r after → statement s later → (r ≡ s) × (after ≡ later)
 
 -- ---- the general laws, over any kind and any tests
 
@@ -87,8 +81,8 @@ one-from-name word = says
 
 -- ---- sets
 
-pub one-ActionSet-new : OneAnswer (λ (r : ActionSet). r .0 ≡ 0)
-one-ActionSet-new r s a b = ap (λ (bits : ℕ). record { 0 = bits }) (a ∙ sym b)
+pub one-ActionSet-new : OneAnswer (λ (r : ActionSet). r ≡ emptySet)
+one-ActionSet-new = equals
 
 pub one-ActionSet-check : (bits : ℕ) → OneAnswer (ChecksSet bits)
 one-ActionSet-check bits = says
@@ -148,7 +142,7 @@ one-step context state mode n = says
 
 -- the equation is a part of what the next two say, and of what replay says
 pub one-result : (context : CraftContext) (state : CraftState) (mode : Mode) → OneAnswer (HasResult context state mode)
-one-result context state mode r s a b = one-answer (a .0) (b .0)
+one-result context state mode r s a b = one-answer (a .says) (b .says)
 
 pub one-score : (context : CraftContext) (state : CraftState) → OneAnswer (HasScore context state)
 one-score context state r s a b = one-answer (a .0) (b .0)

@@ -6,7 +6,8 @@ use Prim.Native.Nat.{ℕ}
 use lib.Ieee.{Float}
 use Rattle.moves.specs.declared.mode.Mode.{Mode}
 use Rattle.tree.specs.declared.node.Node.{Node}
-use Rattle.crafty.specs.laws.OneAnswer.{OneAnswer, OneOutcome, says, writes, changes}
+use Rattle.refusal.specs.Demands.{OneAnswer, OneOutcome}
+use Rattle.crafty.specs.laws.OneAnswer.{says, writes, changes}
 use Rattle.crafty_c.specs.Reports.{TellsNumbers}
 use Rattle.crafty_c.specs.Texts.{TellsReplay, TellsPrinted, TellsActions, TellsList, TellsSeconds}
 use Rattle.crafty_c.specs.Trees.{TellsPlanted, TellsInserted, TellsPropagated, TellsListed, TellsSolved}

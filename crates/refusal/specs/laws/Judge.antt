@@ -52,6 +52,15 @@ module _ {A : Type 0} (refused : Refusal → A) (answer : A) (tests : List Test)
   pub judged-refused : {x : Refusal} → Refused x ≡ checksOf tests → refused x ≡ judged refused answer tests
   judged-refused f = stops refused answer [] tests f ∙ rw append-nil
 
+-- what is worked out of an answer is worked out of each of its ways
+pub judged-map : {A B : Type 0} (f : A → B) (refused : Refusal → A) (answer : A) (tests : List Test)
+    → f (judged refused answer tests) ≡ judged (λ x. f (refused x)) (f answer) tests
+judged-map f refused answer tests = by (checksOf tests) refl
+  where
+    by : (c : Checked) → c ≡ checksOf tests → f (judged refused answer tests) ≡ judged (λ x. f (refused x)) (f answer) tests
+    by Passed e = ap f (sym (judged-passed refused answer tests e)) ∙ judged-passed (λ x. f (refused x)) (f answer) tests e
+    by (Refused x) e = ap f (sym (judged-refused refused answer tests e)) ∙ judged-refused (λ x. f (refused x)) (f answer) tests e
+
 -- one test alone
 pub alone : (t : Test) {checked : Checked} → checked ≡ checkedOf t → checked ≡ checksOf (t ∷ [])
 unfolding judged

@@ -10,6 +10,8 @@ use borrow.Author.Tests.{leb-true}
 use Rattle.refusal.specs.declared.Refusal.{Refusal}
 use Rattle.refusal.specs.declared.Checked.the-variants.{Passed, Refused}
 use Rattle.refusal.specs.Judge.{Test, judged, checksOf, roomTest, Kind}
+use Rattle.refusal.specs.Demands.{numbersIn, RefusesWhole}
+use Rattle.refusal.specs.laws.Demands.{number-among, refused-whole}
 use Rattle.refusal.specs.laws.Judge.{shown, judged-passed, one-answer}
 use Rattle.laws.specs.laws.Tests.{true-false}
 use Rattle.action.specs.Known.{actionTest}
@@ -87,3 +89,9 @@ inserted-kept nodes count parent action i e =
 
 pub one-change : {A : Type 0} {kind : Kind A} {tests : List Test} {answer r s : A} {nodes changed after later : List Node} → Changes kind tests answer nodes changed r after → Changes kind tests answer nodes changed s later → (r ≡ s) × (after ≡ later)
 one-change a b = (one-answer (a .says) (b .says), a .records ∙ sym (b .records))
+
+-- ---- total and refusing: each answer is told by 0 or the number of one of the tests, and a refusal leaves every record
+
+pub changes-refuses : {A : Type 0} {kind : Kind A} {tests : List Test} {answer : A} {nodes changed : List Node}
+    → RefusesWhole kind (numbersIn tests) nodes (Changes kind tests answer nodes changed)
+changes-refuses {changed = changed} r after w = (number-among (w .says), refused-whole (w .says) changed (w .records))

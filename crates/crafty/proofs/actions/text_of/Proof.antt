@@ -10,7 +10,7 @@ use Rattle.action.specs.Known.{actions}
 use Rattle.action.specs.laws.Known.{action-shown}
 use Rattle.action.specs.Names.{textOf}
 use Rattle.action.specs.laws.Names.{text-short}
-use Rattle.crafty.specs.Room.{fits-as}
+use Rattle.crafty.specs.laws.Room.{fits-as}
 use Rattle.crafty.proofs.actions.text_of.Statement.{statement}
 use Rattle.crafty.proofs.actions.text_of.Tie as tie
 

@@ -10,7 +10,7 @@ use Rattle.refusal.specs.declared.Checked.the-variants.{Passed}
 use Rattle.refusal.specs.Judge.{checksOf}
 use Rattle.text.specs.laws.Over.{Rendered}
 use Rattle.transcript.specs.Transcript.{transcriptMost}
-use Rattle.crafty.specs.Room.{fits-as}
+use Rattle.crafty.specs.laws.Room.{fits-as}
 use Rattle.crafty.specs.Program.{inputTests, replayTextOf}
 use Rattle.crafty.specs.laws.Program.{input-accepted, input-refused, prints-text, prints-refused}
 use Rattle.crafty.proofs.program.replay_output.Statement.{statement}

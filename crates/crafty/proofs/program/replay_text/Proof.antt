@@ -11,7 +11,7 @@ use Rattle.refusal.specs.Judge.{Test, checksOf, roomTest}
 use Rattle.refusal.specs.laws.Judge.{stopped-room-by, onward-room-by}
 use Rattle.text.specs.laws.Over.{Rendered}
 use Rattle.transcript.specs.Transcript.{transcriptMost}
-use Rattle.crafty.specs.Room.{fits-as}
+use Rattle.crafty.specs.laws.Room.{fits-as}
 use Rattle.crafty.specs.Program.{inputTests, replayTextOf}
 use Rattle.crafty.specs.laws.Program.{input-accepted, input-refused, replays-whole}
 use Rattle.crafty.proofs.program.replay_text.Statement.{statement}

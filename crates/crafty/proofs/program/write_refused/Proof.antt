@@ -7,7 +7,7 @@ use Rattle.refusal.specs.declared.Report.{Report}
 use Rattle.text.specs.Decimal.{decimalOf}
 use Rattle.text.specs.laws.Lengths.{right-none}
 use Rattle.text.specs.laws.Over.{Rendered, rendered, then, put-as}
-use Rattle.crafty.specs.Room.{fits-as}
+use Rattle.crafty.specs.laws.Room.{fits-as}
 use Rattle.crafty.specs.Program.{refusedTextOf}
 use Rattle.crafty.proofs.program.write_refused.Statement.{statement}
 use Rattle.crafty.proofs.program.write_refused.Tie as tie

@@ -13,6 +13,7 @@ use Rattle.craft_context.specs.Limits.{ContextIn, contextTests}
 use Rattle.craft_context.specs.laws.Limits.{context-in}
 use Rattle.simulator.specs.Promise.{Promise}
 use Rattle.simulator.specs.laws.Promise.{all-known, promised}
+use Rattle.crafty.specs.laws.Verdicts.{replay-verdict}
 use Rattle.crafty.specs.declared.replays.Replayed.the-variants.{Report}
 use Rattle.crafty.proofs.replays.replay.Statement.{statement}
 use Rattle.crafty.proofs.replays.replay.Tie as tie
@@ -39,27 +40,30 @@ replay-spec =
     (λ c. search needs)
     (λ c.
     let k = c .before .before .before in
-    record { says = stopped-by (contextTests (k .before .before .args .context)) (listTest (k .before .before .args .list .now) ∷ []) (k .check .ensures .same) (c .before .inside .given .1); promise = tt; score = tt })
+    let s =
+    stopped-by (contextTests (k .before .before .args .context)) (listTest (k .before .before .args .list .now) ∷ []) (k .check .ensures .same)
+    (c .before .inside .given .1)
+    in
+    record { says = s; verdict = replay-verdict s; promise = tt; score = tt })
     (λ c. search needs)
     (λ c κs. tt)
     (λ c. search needs)
     (λ c.
     let l = c .before .before .before in
     let k = l .before .before .before in
-    record {
-      says =
-          onward-by (contextTests (k .before .before .args .context)) (listTest (k .before .before .args .list .now) ∷ []) (k .check .ensures .same) (l .before .enum-told .given .1) (stopped (l .check-list .ensures) (c .before .known .given .1));
-      promise = tt;
-      score = tt;
-    })
+    let s =
+    onward-by (contextTests (k .before .before .args .context)) (listTest (k .before .before .args .list .now) ∷ []) (k .check .ensures .same)
+    (l .before .enum-told .given .1) (stopped (l .check-list .ensures) (c .before .known .given .1))
+    in
+    record { says = s; verdict = replay-verdict s; promise = tt; score = tt })
     (λ c. search needs)
     (λ c κs. let l = c .before .before in (inside (l .before), list-shown _ (l .check-list .ensures) (c .enum-told2 .given .1)))
     (λ c.
     let l = c .before .before .before in
     let k = l .before .before .before in
-    record {
-      says =
-          onward-by (contextTests (k .before .before .args .context)) (listTest (k .before .before .args .list .now) ∷ []) (k .check .ensures .same) (l .before .enum-told .given .1) (onward (l .check-list .ensures) (c .before .enum-told2 .given .1) (answered refl (ap Report (c .execute-actions .ensures .0))));
-      promise = kept c;
-      score = c .execute-actions .ensures .1;
-    }))
+    let s =
+    onward-by (contextTests (k .before .before .args .context)) (listTest (k .before .before .args .list .now) ∷ []) (k .check .ensures .same)
+    (l .before .enum-told .given .1)
+    (onward (l .check-list .ensures) (c .before .enum-told2 .given .1) (answered refl (ap Report (c .execute-actions .ensures .0))))
+    in
+    record { says = s; verdict = replay-verdict s; promise = kept c; score = c .execute-actions .ensures .1 }))

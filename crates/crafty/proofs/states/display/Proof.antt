@@ -10,7 +10,7 @@ use Rattle.text.specs.laws.Over.{Rendered, rendered}
 use Rattle.craft_state.specs.Limits.{givenTests}
 use Rattle.craft_state.specs.Line.{displayOf}
 use Rattle.craft_state.specs.laws.Line.{line-short}
-use Rattle.crafty.specs.Room.{fits-as}
+use Rattle.crafty.specs.laws.Room.{fits-as}
 use Rattle.crafty.proofs.states.display.Statement.{statement}
 use Rattle.crafty.proofs.states.display.Tie as tie
 

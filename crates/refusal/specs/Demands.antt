@@ -1,0 +1,70 @@
+-- Document 01, "What the statements have to say" and demand 1, of the statement of a public entry: no second answer fits,
+-- and it refuses by fixed numbers, with every lent buffer unchanged.
+-- Assumes nothing.
+use mathlib.Core.Path.{_≡_}
+use mathlib.Core.Logic.{_⊎_}
+use mathlib.Core.Bool.{Bool, true, false, cond, _&&_}
+use mathlib.Core.List.{List, [], _∷_, _++_}
+use Prim.Native.Nat.{ℕ}
+use lib.Dec.{eqb}
+use Rattle.refusal.specs.declared.Refusal.{Refusal}
+use Rattle.refusal.specs.declared.Report.{Report}
+use Rattle.refusal.specs.Report.{reportOf, success}
+use Rattle.refusal.specs.Judge.{Test, Kind}
+
+-- ---- no second answer fits
+
+-- one answer meets the statement; and one that lends: one answer, with what was lent at exit
+abbrev pub OneAnswer : {A : Type 0} → (A → Type 0) → Type 0
+OneAnswer {A} statement = (r s : A) → statement r → statement s → r ≡ s
+
+abbrev pub OneOutcome : {A B : Type 0} → (A → B → Type 0) → Type 0
+OneOutcome {A} {B} statement = (r s : A) (after later : B) → statement r after → statement s later → (r ≡ s) × (after ≡ later)
+
+-- ---- total and refusing
+
+-- how tests come out: each passes, and success is told; or one fails, those before it passed, and its refusal is told
+abbrev pub allPass : List Test → Bool
+allPass [] = true
+allPass (t ∷ rest) = t .passed && allPass rest
+
+pub record FirstFailing (tests : List Test) : Type 0 where
+  pub before : List Test
+  pub test : Test
+  pub after : List Test
+  pub place : tests ≡ before ++ (test ∷ after)
+  pub passed : allPass before ≡ true
+  pub failed : test .passed ≡ false
+
+pub data Settled (tests : List Test) (report : Report) : Type 0 where
+  accepts : allPass tests ≡ true → report ≡ success → Settled tests report
+  refuses : (first : FirstFailing tests) → report ≡ reportOf (first .test .otherwise) → Settled tests report
+
+-- ---- by which numbers
+
+abbrev pub numberOf : Refusal → ℕ
+numberOf x = reportOf x .0
+
+-- a number before others, unless it is the first of them
+abbrev pub before : ℕ → List ℕ → List ℕ
+before n [] = n ∷ []
+before n (m ∷ more) = cond (eqb n m) (m ∷ more) (n ∷ m ∷ more)
+
+-- the numbers of the tests' refusals, in their order
+abbrev pub numbersIn : List Test → List ℕ
+numbersIn [] = []
+numbersIn (t ∷ rest) = before (numberOf (t .otherwise)) (numbersIn rest)
+
+-- one of the numbers, or 0
+abbrev pub Among : List ℕ → ℕ → Type 0
+Among [] n = n ≡ 0
+Among (m ∷ more) n = (n ≡ m) ⊎ Among more n
+
+-- every answer that meets the statement is told by 0 or one of the numbers
+abbrev pub Refuses : {A : Type 0} → Kind A → List ℕ → (A → Type 0) → Type 0
+Refuses {A} kind numbers statement = (r : A) → statement r → Among numbers (kind .told r .0)
+
+-- and where it is not 0, what was lent is at exit as it was
+abbrev pub RefusesWhole : {A B : Type 0} → Kind A → List ℕ → B → (A → B → Type 0) → Type 0
+RefusesWhole {A} {B} kind numbers lent statement =
+    (r : A) (after : B) → statement r after → Among numbers (kind .told r .0) × ((kind .told r .0 ≡ 0 → ⊥) → after ≡ lent)
