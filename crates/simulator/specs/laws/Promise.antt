@@ -7,12 +7,9 @@ use Prim.Native.Nat.{ℕ, zero, suc, _+_, _≤_, _<_, zero-le}
 use native.Mathlib.Nat.{le-trans, le-refl, le-of-eq, le-antisymm, add-zero, zero-add, le-of-suc-le-suc, not-suc-le-zero, min-eq-left}
 use native.Mathlib.Omega.{arith}
 use lib.Dec.{eqb, ltb, lit≤}
-use lib.IntN.{ℤ}
 use lib.ListN.{length, take, length-take}
-use lib.Signed.{leZ}
 use borrow.Author.Tests.{ltb-true, eqb-true, not-true}
 use Rattle.laws.specs.laws.Tests.{both, and-true, and-false, true-false}
-use Rattle.laws.specs.laws.Raise.{raise-le}
 use Rattle.laws.specs.Bits.{has}
 use Rattle.action.specs.Actions as A
 use Rattle.action.specs.Known.{actions, knownFront}
@@ -21,8 +18,8 @@ use Rattle.craft_context.specs.declared.context.CraftContext.{CraftContext}
 use Rattle.craft_context.specs.Limits.{ContextIn}
 use Rattle.craft_state.specs.declared.state.CraftState.{CraftState}
 use Rattle.craft_state.specs.declared.state.Last.the-variants as L
-use Rattle.craft_state.specs.Limits.{stepLeast, stepMost, durabilityLeast}
-use Rattle.craft_state.specs.Inside.{DurabilityIn, CraftIn}
+use Rattle.craft_state.specs.Limits.{stepLeast, stepMost}
+use Rattle.craft_state.specs.Inside.{CraftIn}
 use Rattle.craft_state.specs.laws.Inside.{start-in}
 use Rattle.craft_state.specs.Start.{startOf}
 use Rattle.step.specs.Step.{executeOf}
