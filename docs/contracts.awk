@@ -56,13 +56,13 @@ function read_parameters(start,   part, word, k) {
     }
 }
 
-# A parameter becomes one word, also where it is read at entry or exit; a list or a record of parameters becomes them in brackets.
+# A parameter becomes one word, also where it is read at entry or exit; a list, a record or a mode of parameters becomes them in brackets.
 function as_words(text) {
     gsub(/«/, "", text)
     gsub(/»/, "", text)
     gsub(/\(self \.0\)/, "self", text)
     while (match(text, /\(now \([a-z_]+ \.(entry|exit)\)\)/)) text = substr(text, 1, RSTART - 1) read_word(substr(text, RSTART, RLENGTH)) substr(text, RSTART + RLENGTH)
-    gsub(/\(record [{] [a-z_]+ = /, "(", text)
+    gsub(/\((record [{] [a-z_]+ = |modeOf )/, "(", text)
     gsub(/ [}]\)| ∷ \[\]\)/, ")", text)
     gsub(/ ∷ /, " ", text)
     gsub(/\(/, "( ", text)

@@ -15,7 +15,3 @@ one = float 1
 -- so many hundredths, rounded
 abbrev pub hundredths : ℕ → Float
 hundredths n = div binary32 (float n) (float 100)
-
--- 1
-abbrev pub one : Float
-one = float 1
