@@ -1,16 +1,14 @@
--- A context from fifteen numbers, in the order of its fields, and refusal 1 for a number that its field does not take.
+-- Document 01, "The replay program": the "fifteen `CraftContext` fields in order" make a context, "flags 0 or 1, else refusal 1, as for a number too large".
 -- Assumes nothing.
-use mathlib.Core.Path.{_≡_}
 use mathlib.Core.Bool.{Bool, true, _&&_}
 use mathlib.Core.List.{List, [], _∷_}
 use Prim.Native.Nat.{ℕ, _-_, _^_}
 use lib.Dec.{leb, eqb}
 use lib.IntN.{pos}
-use lib.ListN.{length, getD}
+use lib.ListN.{getD}
 use Rattle.refusal.specs.Judge.{Test}
 use Rattle.craft_context.specs.declared.context.CraftContext.{CraftContext}
 use Rattle.craft_context.specs.Limits.{limitTest, contextTests}
-use Rattle.context_line.specs.Shape.{fields}
 
 -- the greatest number of each type that a field has: u32, u8, i8
 abbrev pub wordMost : ℕ
@@ -51,11 +49,6 @@ unfoldable pub fitting : List ℕ → List ℕ → Bool
 fitting [] values = true
 fitting (most ∷ more) [] = true
 fitting (most ∷ more) (n ∷ values) = leb n most && fitting more values
-
--- fifteen numbers, each of which its field takes
-pub record Fitting (values : List ℕ) : Type 0 where
-  pub count : length values ≡ fields
-  pub fits : fitting mosts values ≡ true
 
 -- refusal 1
 abbrev pub fitsTest : List ℕ → Test

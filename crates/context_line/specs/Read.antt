@@ -1,4 +1,4 @@
--- What the reader answers, of a line and of fifteen numbers.
+-- What the reader answers, of a line and of fifteen numbers. Document 01, "What comes back on refusal": 12 precedes 1.
 -- Assumes nothing.
 use mathlib.Core.Path.{refl}
 use mathlib.Core.List.{List, _∷_}

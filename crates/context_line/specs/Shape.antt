@@ -1,16 +1,15 @@
--- A context's line of text: where it ends, its shape, its numbers, and refusal 12.
+-- Document 01, "The replay program": "line one holds the fifteen `CraftContext` fields in order, 1 to 10 digits each, single spaces, byte 10".
+-- Where a line ends, its shape, its numbers, and refusal 12, "first line malformed".
 -- Assumes nothing.
-use mathlib.Core.Path.{_≡_}
-use mathlib.Core.Bool.{Bool, true, false, cond, not, _&&_}
+use mathlib.Core.Bool.{Bool, not, _&&_}
 use mathlib.Core.List.{List, [], _∷_}
-use Prim.Native.Nat.{ℕ, zero, suc, _-_, _≤_, _<_}
+use Prim.Native.Nat.{ℕ, zero, suc, _-_}
 use lib.Dec.{leb, eqb}
-use lib.ListN.{length, take, drop, getD, replicate}
+use lib.ListN.{length, take, drop, getD}
 use Rattle.laws.specs.Lists.{front}
 use Rattle.refusal.specs.Judge.{Test}
 use Rattle.refusal.specs.declared.Refusal.the-variants.{MalformedLine}
 use Rattle.text.specs.Reading.{valueOf}
-use Rattle.context_line.specs.declared.line.Numbers.{Numbers}
 
 -- byte 10 ends a line
 abbrev pub inLine : ℕ → Bool
@@ -35,15 +34,11 @@ digitsMost = 10
 abbrev pub wide : ℕ → Bool
 wide w = leb 1 w && leb w digitsMost
 
--- digits alone, few enough for a number
-pub record Run (text : List ℕ) : Type 0 where
-  pub few : length text ≤ digitsMost
-  pub each : (i : ℕ) → i < length text → digit (getD text i 0) ≡ true
-
 -- a number and `more` others, each after one byte 32, and nothing else
 unfoldable pub shaped : ℕ → List ℕ → Bool
 shaped zero text = wide (digits text) && leb (length text) (digits text)
-shaped (suc more) text = wide (digits text) && (eqb (getD text (digits text) 0) 32 && shaped more (drop (suc (digits text)) text))
+shaped (suc more) text =
+    wide (digits text) && (eqb (getD text (digits text) 0) 32 && shaped more (drop (suc (digits text)) text))
 
 -- the numbers of such a text; zeros may lead
 unfoldable pub valuesOf : ℕ → List ℕ → List ℕ
@@ -63,13 +58,6 @@ lineShaped line = shaped others line
 
 abbrev pub numbersOf : List ℕ → List ℕ
 numbersOf line = valuesOf others line
-
--- what the code reads a line into: its numbers where it is shaped, else zeros
-abbrev pub noNumbers : Numbers
-noNumbers = record { shaped = false; values = replicate fields 0 }
-
-abbrev pub readOf : List ℕ → Numbers
-readOf line = record { shaped = lineShaped line; values = cond (lineShaped line) (numbersOf line) (noNumbers .values) }
 
 -- refusal 12
 abbrev pub lineTest : List ℕ → Test

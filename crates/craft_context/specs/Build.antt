@@ -1,4 +1,4 @@
--- Document 01, "Context" and the second sentence of its "Limits": the context that is built from player, recipe and options, and its entry.
+-- Document 01, "Context": what is built from player, recipe and options; "Limits": "Building a context: ..; then the context limits."
 -- Assumes nothing.
 use mathlib.Core.Path.{refl}
 use mathlib.Core.Bool.{Bool}
@@ -26,8 +26,8 @@ givenOr (G.Value n) other = n
 givenOr G.Nothing other = other
 
 -- the player's level is at most the recipe's: then the modifier counts
-abbrev pub atMost : Player → Recipe → Bool
-atMost player recipe = leb (player .«job_level») (recipe .«job_level»)
+abbrev pub isScaled : Player → Recipe → Bool
+isScaled player recipe = leb (player .«job_level») (recipe .«job_level»)
 
 unfoldable pub builtOf : Player → Recipe → CraftOptions → CraftContext
 builtOf player recipe options =
@@ -35,9 +35,9 @@ builtOf player recipe options =
       «player_job_level» = player .«job_level»;
       «recipe_job_level» = recipe .«job_level»;
       «base_progress_factor» =
-          factorOf (player .craftsmanship) (recipe .«progress_div») progressPlus (recipe .«progress_mod») (atMost player recipe);
+          factorOf (player .craftsmanship) (recipe .«progress_div») progressPlus (recipe .«progress_mod») (isScaled player recipe);
       «base_quality_factor» =
-          factorOf (player .control) (recipe .«quality_div») qualityPlus (recipe .«quality_mod») (atMost player recipe);
+          factorOf (player .control) (recipe .«quality_div») qualityPlus (recipe .«quality_mod») (isScaled player recipe);
       «step_max» = options .«max_steps»;
       «progress_target» = recipe .progress;
       «starting_quality» = givenOr (options .«starting_quality») 0;

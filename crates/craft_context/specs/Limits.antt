@@ -1,4 +1,4 @@
--- Document 01, "Limits", its first two sentences: of a context, and of what it is built from, field by field in order. Outside is refusal 1.
+-- Document 01, "Limits", the lines "Context" and "Building a context", field by field in order. Outside is refusal 1.
 -- Assumes nothing.
 use mathlib.Core.Path.{_≡_}
 use mathlib.Core.Bool.{Bool, true, false, _&&_}

@@ -1,8 +1,8 @@
--- The bits of a number, and the number that has the bits for which a rule holds, over any width w.
+-- What document 01's sets of bits ("Action table": "A set is 31 bits, bit n for action n") are said with, over any width w: the bits of a
+-- number, the number that has the bits for which a rule holds, their count, and the highest of them.
 -- Assumes nothing.
-use mathlib.Core.Path.{_≡_}
-use mathlib.Core.Bool.{Bool, true, cond, not, _&&_, _||_}
-use Prim.Native.Nat.{ℕ, zero, suc, _+_, _/_, _%_, _^_, _≤_, _<_}
+use mathlib.Core.Bool.{Bool, cond, not, _&&_, _||_}
+use Prim.Native.Nat.{ℕ, zero, suc, _+_, _/_, _%_, _^_}
 use lib.Dec.{eqb}
 
 -- bit n of s is set
@@ -33,13 +33,3 @@ count (suc w) p = count w p + cond (p w) 1 0
 unfoldable pub highestBelow : {A : Type 0} → (ℕ → A) → A → ℕ → (ℕ → Bool) → A
 highestBelow found none zero p = none
 highestBelow found none (suc w) p = cond (p w) (found w) (highestBelow found none w p)
-
--- n is a set bit of s, and below w
-pub record Member (w s n : ℕ) : Type 0 where
-  pub known : n < w
-  pub is : has s n ≡ true
-
--- n is the highest set bit of s
-pub record Top (s n : ℕ) : Type 0 where
-  pub low : 2 ^ n ≤ s
-  pub high : s < 2 ^ suc n

@@ -1,4 +1,4 @@
--- Whole numbers and hundredths in binary32, by the logic's account of IEEE 754.
+-- Document 01: "Floats follow IEEE 754 binary32, round to nearest even." Whole numbers and hundredths, by the logic's account of IEEE 754.
 -- Assumes nothing.
 use Prim.Native.Nat.{ℕ}
 use lib.IntN.{pos}

@@ -1,4 +1,5 @@
--- Lists of numbers, as tests that compute: the front that passes a test, membership, and two lists that are the same.
+-- What document 01's rules over lists (a line's end, the first unknown action, a word that is exactly a name) are said with, as tests that
+-- compute: the front that passes a test, membership, and two lists that are the same.
 -- Assumes nothing.
 use mathlib.Core.Bool.{Bool, true, false, cond, _&&_, _||_}
 use mathlib.Core.List.{List, [], _∷_}

@@ -50,7 +50,10 @@ joined-next s n rest =
 
 -- a turn of the loop over a list
 pub joined-turn : (list : List ℕ) (i s : ℕ) {r : ℕ} → i < length list → r ≡ withOf s (getD list i 0) → joined r (drop (i + 1) list) ≡ joined s (drop i list)
-joined-turn list i s {r} h e = ap (λ (x : ℕ). joined x (drop (i + 1) list)) e ∙ joined-next s (getD list i 0) (drop (i + 1) list) ∙ ap (joined s) (sym (drop-at list i h))
+joined-turn list i s {r} h e =
+    ap (λ (x : ℕ). joined x (drop (i + 1) list)) e
+    ∙ joined-next s (getD list i 0) (drop (i + 1) list)
+    ∙ ap (joined s) (sym (drop-at list i h))
 
 pub joined-end : (s : ℕ) → SetIn s → joined s [] ≡ s
 unfolding elem

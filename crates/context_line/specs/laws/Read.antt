@@ -14,10 +14,10 @@ use Rattle.refusal.specs.laws.Judge.{judged-passed, judged-refused, shown}
 use Rattle.craft_context.specs.declared.context.CraftContext.{CraftContext}
 use Rattle.craft_context.specs.Limits.{contextTests, ContextIn}
 use Rattle.craft_context.specs.laws.Limits.{context-in}
-use Rattle.context_line.specs.Shape.{others, lineShaped, numbersOf, readOf, lineTest}
-use Rattle.context_line.specs.Fields.{byteMost, Fitting, fitsTest, contextOf, numberTests}
-use Rattle.context_line.specs.laws.Fields.{at-most}
-use Rattle.context_line.specs.laws.Shape.{values-length}
+use Rattle.context_line.specs.Shape.{others, lineShaped, numbersOf, lineTest}
+use Rattle.context_line.specs.Fields.{byteMost, fitsTest, contextOf, numberTests}
+use Rattle.context_line.specs.laws.Fields.{Fitting, at-most}
+use Rattle.context_line.specs.laws.Shape.{readOf, values-length}
 use Rattle.context_line.specs.Read.{read, lineTests}
 use Rattle.context_line.specs.declared.line.Numbers.{Numbers}
 use Rattle.context_line.specs.declared.fields.Read.{Read}
@@ -71,7 +71,8 @@ pub passed-inside : (values : List ℕ) → Passed ≡ checksOf (numberTests val
 passed-inside values p = context-in (contextOf values) (shown (fitsTest values) (contextTests (contextOf values)) p refl .1) refl
 
 -- of a whole line: its context is inside the limits, and its step_max is a byte
-pub line-passed : (line : List ℕ) → Passed ≡ checksOf (lineTests line) → ContextIn (contextOf (numbersOf line)) × (contextOf (numbersOf line) .«step_max» ≤ byteMost)
+pub line-passed : (line : List ℕ) → Passed ≡ checksOf (lineTests line)
+    → ContextIn (contextOf (numbersOf line)) × (contextOf (numbersOf line) .«step_max» ≤ byteMost)
 unfolding contextOf
 line-passed line p =
     let values = numbersOf line in

@@ -15,8 +15,13 @@ use Rattle.laws.specs.laws.Front.{front-le}
 use Rattle.laws.specs.laws.Lists.{drop-at}
 use Rattle.laws.specs.laws.Tests.{both}
 use Rattle.text.specs.Reading.{valueIn}
-use Rattle.context_line.specs.Shape.{digit, digits, digitsMost, Run}
+use Rattle.context_line.specs.Shape.{digit, digits, digitsMost}
 use Rattle.laws.specs.Lists.{front}
+
+-- digits alone, few enough for a number: what `runs::number` asks
+pub record Run (text : List ℕ) : Type 0 where
+  pub few : length text ≤ digitsMost
+  pub each : (i : ℕ) → i < length text → digit (getD text i 0) ≡ true
 
 module _ {b : ℕ} (d : digit b ≡ true) where
   pub digit-from : 48 ≤ b
@@ -30,7 +35,8 @@ front-each : (f : ℕ → Bool) (text : List ℕ) (i : ℕ) → i < front f text
 front-each f [] i h = absurd (not-suc-le-zero h)
 front-each f (b ∷ text) i h = by (f b) refl (front-each f text) i h
   where
-    by : (g : Bool) → f b ≡ g → ((j : ℕ) → j < front f text → f (getD text j 0) ≡ true) → (j : ℕ) → j < cond g (suc (front f text)) 0 → f (getD (b ∷ text) j 0) ≡ true
+    by : (g : Bool) → f b ≡ g → ((j : ℕ) → j < front f text → f (getD text j 0) ≡ true)
+        → (j : ℕ) → j < cond g (suc (front f text)) 0 → f (getD (b ∷ text) j 0) ≡ true
     by true e later zero k = e
     by true e later (suc j) k = later j (le-of-suc-le-suc k)
     by false e later j k = absurd (not-suc-le-zero k)

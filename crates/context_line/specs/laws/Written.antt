@@ -43,7 +43,9 @@ module _ (n : ℕ) (h : Brief n) (b : List ℕ) (z : digits b ≡ 0) where
   count = digits-through (decimalOf n) b (decimal-digits n) z
 
   broad : wide (digits (decimalOf n ++ b)) ≡ true
-  broad = ap wide count ∙ and-both (le-leb 1 (length (decimalOf n)) (decimal-some n)) (le-leb (length (decimalOf n)) digitsMost (decimal-length digitsMost n (omega arith) h))
+  broad =
+      ap wide count
+      ∙ and-both (le-leb 1 (length (decimalOf n)) (decimal-some n)) (le-leb (length (decimalOf n)) digitsMost (decimal-length digitsMost n (omega arith) h))
 
   value : valueOf (take (digits (decimalOf n ++ b)) (decimalOf n ++ b)) ≡ n
   value = ap (λ (k : ℕ). valueOf (take k (decimalOf n ++ b))) count ∙ ap valueOf (take-append-seam (decimalOf n) b) ∙ decimal-value n h
@@ -84,7 +86,8 @@ unfolding writtenFrom
 from-reads n [] h e = last-reads n h
 from-reads n (m ∷ rest) h e = next-reads n h (from-reads m rest (e .0) (e .1))
 
-pub line-reads : (numbers : List ℕ) → length numbers ≡ fields → Each Brief numbers → (lineShaped (writtenOf numbers) ≡ true) × (numbersOf (writtenOf numbers) ≡ numbers)
+pub line-reads : (numbers : List ℕ) → length numbers ≡ fields → Each Brief numbers
+    → (lineShaped (writtenOf numbers) ≡ true) × (numbersOf (writtenOf numbers) ≡ numbers)
 line-reads [] c e = absurd (omega arith)
 line-reads (n ∷ rest) c e =
     let r = from-reads n rest (e .0) (e .1) in

@@ -4,7 +4,8 @@ use mathlib.Core.Path.{_≡_, refl, sym, ap, ap₂, _∙_, subst}
 use mathlib.Core.Bool.{Bool, true, false, cond, not, _&&_, _||_}
 use mathlib.Core.Logic.{⊎-elim}
 use Prim.Native.Nat.{ℕ, zero, suc, _+_, _-_, _*_, _/_, _%_, _^_, _≤_, _<_}
-use native.Mathlib.Nat.{eq-or-lt-of-le, le-of-suc-le-suc, le-trans, lt-of-lt-of-le, lt-irrefl, lt-of-not-le, not-suc-le-zero, add-comm, add-zero, mod-lt, mod-one, mod-eq-of-lt, div-eq-of-lt, div-eq-of-lt-le, pow-suc, one-mul, zero-mul, zero-lt-suc}
+use native.Mathlib.Nat.{eq-or-lt-of-le, le-of-suc-le-suc, le-trans, lt-of-lt-of-le, lt-irrefl, lt-of-not-le, not-suc-le-zero, zero-lt-suc}
+use native.Mathlib.Nat.{add-comm, add-zero, one-mul, zero-mul, mod-lt, mod-one, mod-eq-of-lt, div-eq-of-lt, div-eq-of-lt-le, pow-suc}
 use native.Mathlib.Numerals.{one-add}
 use native.Mathlib.Omega.{arith}
 use borrow.Author.Tests.{eq-eqb, ne-eqb, eqb-true, eqb-false}
@@ -13,7 +14,19 @@ use lib.Bits.{bitAnd, bitOr, and-high, or-add-and}
 use lib.Pow.{pow-pos, pow-add, pow-mono, mod-pow-add, mod-mod-pow, field, high, low}
 use lib.Count.{ones, ones-cat, leadingZeros, leading-top}
 use Rattle.laws.specs.laws.Tests.{or-false, or-true, and-true, and-false, either, true-false}
-use Rattle.laws.specs.Bits.{has, collect, withBit, withoutBit, keepBits, count, highestBelow, Member, Top}
+use Rattle.laws.specs.Bits.{has, collect, withBit, withoutBit, keepBits, count, highestBelow}
+
+-- ---- what inner functions over bits answer
+
+-- n is a set bit of s, and below w
+pub record Member (w s n : ℕ) : Type 0 where
+  pub known : n < w
+  pub is : has s n ≡ true
+
+-- n is the highest set bit of s
+pub record Top (s n : ℕ) : Type 0 where
+  pub low : 2 ^ n ≤ s
+  pub high : s < 2 ^ suc n
 
 -- ---- one digit
 

@@ -35,6 +35,7 @@ pub front-after : (f : ℕ → Bool) (t : List ℕ) → front f t < length t →
 front-after f [] h = absurd (not-suc-le-zero h)
 front-after f (b ∷ t) h = by (f b) refl (front-after f t) h
   where
-    by : (g : Bool) → f b ≡ g → (front f t < length t → f (getD t (front f t) 0) ≡ false) → cond g (suc (front f t)) 0 < suc (length t) → f (getD (b ∷ t) (cond g (suc (front f t)) 0) 0) ≡ false
+    by : (g : Bool) → f b ≡ g → (front f t < length t → f (getD t (front f t) 0) ≡ false)
+        → cond g (suc (front f t)) 0 < suc (length t) → f (getD (b ∷ t) (cond g (suc (front f t)) 0) 0) ≡ false
     by true e r k = r (omega arith)
     by false e r k = e

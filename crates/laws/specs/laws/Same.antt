@@ -51,4 +51,5 @@ below f (suc m) = f m && below f m
 pub below-at : (f : ℕ → Bool) (m n : ℕ) → n < m → T (below f m) → T (f n)
 below-at f zero n h t = absurd (not-suc-le-zero h)
 below-at f (suc m) n h t =
-    ⊎-elim (λ (p : n ≡ m). subst (λ (x : ℕ). T (f x)) (sym p) (and-left (f m) (below f m) t)) (λ (p : n < m). below-at f m n p (and-right (f m) (below f m) t)) (eq-or-lt-of-le (le-of-suc-le-suc h))
+    ⊎-elim (λ (p : n ≡ m). subst (λ (x : ℕ). T (f x)) (sym p) (and-left (f m) (below f m) t))
+    (λ (p : n < m). below-at f m n p (and-right (f m) (below f m) t)) (eq-or-lt-of-le (le-of-suc-le-suc h))

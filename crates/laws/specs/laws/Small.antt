@@ -3,7 +3,9 @@
 use mathlib.Core.Path.{_≡_, refl, sym, ap, _∙_, subst}
 use mathlib.Core.Bool.{Bool, true, false, cond, Bool·beq, _&&_, _||_}
 use Prim.Native.Nat.{ℕ, zero, suc, _+_, _-_, _*_, _/_, _^_, _≤_, _<_, min, zero-le}
-use native.Mathlib.Nat.{le-trans, le-of-eq, le-of-lt, lt-of-le-of-lt, mul-assoc, mul-comm, mul-right-comm, mul-one, one-mul, zero-mul, add-mul, mul-le-mul, mul-le-mul-right, mul-lt-mul-of-pos-right, le-of-mul-le-mul-right, mul-mul-mul-comm, mul-pos, zero-lt-suc, min-le-left, min-eq-left, div-le-of-le-mul}
+use native.Mathlib.Nat.{le-trans, le-of-eq, le-of-lt, lt-of-le-of-lt, zero-lt-suc, min-le-left, min-eq-left, div-le-of-le-mul}
+use native.Mathlib.Nat.{mul-assoc, mul-comm, mul-right-comm, mul-mul-mul-comm, mul-one, one-mul, zero-mul, add-mul, mul-pos}
+use native.Mathlib.Nat.{mul-le-mul, mul-le-mul-right, mul-lt-mul-of-pos-right, le-of-mul-le-mul-right}
 use native.Mathlib.Omega.{arith}
 use lib.Dec.{T, ltb, eqb, ltb→lt, lt→ltb, eqb→eq, eqb·suc-zero}
 use lib.IntN.{ℤ, pos, negsuc}
@@ -149,7 +151,11 @@ div-small f (fin s m e) (fin t (suc w) d) b n B N v p =
     let y-is : n * down d ≡ suc w * up d = sym (v .1) ∙ mul-one (suc w * up d) in
     rw eqb·suc-zero
     (round-small f (unlike s t) (m * up e * down d) (suc w * up d * down e) b (mul-pos (mul-pos (zero-lt-suc w) (up-pos d)) (down-pos e)) B
-    (le-trans (mul-le-mul-right (down d) p) (le-of-eq (mul-right-comm (b * n) (down e) (down d) ∙ ap (λ (z : ℕ). z * down e) (mul-assoc b n (down d) ∙ ap (λ (z : ℕ). b * z) y-is) ∙ mul-assoc b (suc w * up d) (down e)))))
+    (le-trans (mul-le-mul-right (down d) p)
+    (le-of-eq
+    (mul-right-comm (b * n) (down e) (down d)
+    ∙ ap (λ (z : ℕ). z * down e) (mul-assoc b n (down d) ∙ ap (λ (z : ℕ). b * z) y-is)
+    ∙ mul-assoc b (suc w * up d) (down e)))))
 
 -- ---- truncation
 
