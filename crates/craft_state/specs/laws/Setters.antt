@@ -1,4 +1,4 @@
--- Each setter sets its field, and what was there put back is the state as it was: it has changed nothing else.
+-- Each setter sets its field, and what was there put back is the state as it was.
 -- Assumes nothing.
 use mathlib.Core.Path.{_≡_, refl}
 use Rattle.craft_state.specs.declared.buffs.Buffs.{Buffs}
