@@ -3,13 +3,13 @@
 -- Assumes nothing.
 use mathlib.Core.Path.{_≡_, refl, sym, ap, _∙_}
 use mathlib.Core.Bool.{Bool, true, false, not, cond, _&&_, _||_}
-use mathlib.Core.List.{List, [], _∷_}
+use mathlib.Core.List.{List, []}
 use Prim.Native.Nat.{ℕ, zero, suc, _≤_, _<_}
 use native.Mathlib.Nat.{le-refl}
 use native.Mathlib.Omega.{arith}
 use lib.Dec.{eqb, eqb·suc-zero}
-use borrow.Author.Tests.{eqb-true, eqb-false, eq-eqb}
-use Rattle.laws.specs.laws.Tests.{true-false, both, or-true}
+use borrow.Author.Tests.{eqb-true, eqb-false}
+use Rattle.laws.specs.laws.Tests.{both, or-true}
 use Rattle.tree.specs.declared.node.Node.{Node}
 use Rattle.tree.specs.Tree.{nodeAt, isSound, Falls, aboveIn, isAbove, pathIn, pathOf, descentIn, descentOf, lastOf}
 use Rattle.tree.specs.laws.Node.{sound-parts}

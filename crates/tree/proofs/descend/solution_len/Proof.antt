@@ -9,7 +9,7 @@ use Rattle.tree.specs.declared.best.Best.{Best}
 use Rattle.tree.specs.Tree.{bestOf}
 use Rattle.tree.specs.laws.Descent.{Down, some, down-first, down-short, down-rises, down-on, down-length}
 use Rattle.tree.proofs.best.Best as B
-use Rattle.walks.proofs.Walking.{_≡_, refl, sym, ap, _∙_, subst, ℕ, _+_, _-_, _<_, _^_, arith, List, [], _∷_, eqb, lit<, not-true, not-false, tables, _$_, !, lit, of-opd, bin, no-more, cited, usize′, none, has, holding, env, opd, part, _&_, sets, lands-in, lands-last, keeps, returns, whiles, fat, Shr, Tok, then, last, calls-shr, shr-proved}
+use Rattle.walks.proofs.Walking.{_≡_, refl, sym, _∙_, subst, ℕ, _+_, _-_, _<_, _^_, arith, List, [], _∷_, eqb, lit<, not-true, not-false, tables, _$_, !, lit, of-opd, bin, no-more, cited, usize′, none, has, holding, env, opd, part, _&_, sets, lands-in, lands-last, keeps, returns, whiles, fat, Shr, Tok, then, last, calls-shr, shr-proved}
 use Rattle.tree.proofs.TypesPaths.{best′, best-child′, solution-len′}
 use Rattle.tree.proofs.descend.best_child.Symbol as best-child
 use Rattle.tree.proofs.descend.best_child.Met as best-child-thm
