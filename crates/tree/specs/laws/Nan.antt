@@ -6,7 +6,8 @@ use Prim.Native.Nat.{ℕ}
 use lib.Ieee.{Float, nan, inf, fin, isNan, neg, lt, eq, le}
 use Rattle.laws.specs.laws.Tests.{both}
 use Rattle.tree.specs.declared.node.Node.{Node}
-use Rattle.tree.specs.Node.{plusZero, one, visitsMost}
+use Rattle.laws.specs.Floats.{one}
+use Rattle.tree.specs.Node.{plusZero, visitsMost}
 use Rattle.tree.specs.Sound.{isWhole, isCount, minus, isMaximum, soundAt}
 use Rattle.tree.specs.laws.Node.{sound-parts}
 
