@@ -1,7 +1,7 @@
 # contracts.awk: that each public entry's contract and laws say what the page says that they do, by their form. Prints the faults.
 # A contract is one statement, applied to every parameter at entry, the answer, and what was lent at exit; or an equation of the answer.
 # Its law of one answer, and that of the numbers by which it refuses, are of that same statement, applied to variables alone.
-# A statement so applied is held as its form: its name, and for each argument `_` or a constant, as `HasText Text.Name _ _`.
+# Such a statement is held as its form: its name, and for each argument `_`, or the constant that it is: `HasText Text.Name _ _`.
 # Reads the imports (file, name, module), functions, laws (file, name, type) and entries that docs/check lists.
 BEGIN { FS = "\t" }
 FILENAME ~ /imports$/ { module[$1, $2] = $3; next }
@@ -9,8 +9,9 @@ FILENAME ~ /functions$/ { contract[$2] = $4; source[$2] = $5; next }
 FILENAME ~ /laws$/ { file[$2] = $1; type[$2] = $3; next }
 { check_entry($1, $2, $3) }
 
-function check_entry(entry, stated, numbers,   form, title) {
+function check_entry(entry, stated, numbers,   form, lent, title) {
     form = contract_form(contract[entry])
+    lent = lent_at
     if (form == "") {
         print entry ": its contract is no statement of its parameters, its answer and what was lent"
         return
@@ -18,9 +19,9 @@ function check_entry(entry, stated, numbers,   form, title) {
     if (name_of(form) != stated) print entry ": its contract does not say " stated
     title = entry
     gsub(/::|_/, "-", title)
-    check_law(entry, "one-" title, form, "")
+    check_law(entry, "one-" title, lent ? "OneOutcome" : "OneAnswer", form)
     if ((form ~ /^r ≡ /) != (numbers == "")) print entry ": a statement has refusals, and an equation has none"
-    else if (numbers != "") check_law(entry, "total-" title, form, numbers)
+    else if (numbers != "") check_refusals(entry, "total-" title, form, numbers, lent)
 }
 
 function name_of(form) {
@@ -29,39 +30,77 @@ function name_of(form) {
     return form
 }
 
+# The form of a name applied to words: each name of `given` stands there once, alone or among others in brackets, and else constants.
+# `given` is 2 at the one that is lent; `lent_at` is set to its place.
+function applied_form(text,   word, size, i, form, depth, place, seen, used) {
+    size = split(text, word, " ")
+    form = word[1]
+    lent_at = 0
+    for (i = 2; i <= size; i++) {
+        if (word[i] == ")" && depth) { depth = 0; continue }
+        if (!depth) { place++; form = form " " (word[i] ~ /^[A-Z][A-Za-z]*\.[A-Z][A-Za-z]*$/ ? word[i] : "_") }
+        if (word[i] == "(" && !depth) { depth = 1; continue }
+        if (word[i] in given) {
+            if (seen[word[i]]++) return ""
+            used++
+            if (given[word[i]] == 2) lent_at = place
+        } else if (depth || form ~ /_$/) return ""
+    }
+    return form ~ /^[A-Za-z]+( |$)/ && used == named && !depth ? form : ""
+}
+
+function forget() {
+    split("", given)
+    named = 0
+}
+
 # ---- the contract
 
-# Nothing stands beside the one clause, so no premise and no second clause.
-function contract_form(text,   clause, start, at) {
+# Nothing stands beside the one clause: no premise, and no second clause.
+function contract_form(text,   clause, at, start) {
     clause = " ensures { λ r. ⌜ "
     at = index(text, clause)
     start = substr(text, 1, at - 1)
     text = substr(text, at + length(clause))
     if (!at || start !~ /^[a-z_]+\([^()]*\) -> [A-Za-z]+$/ || !sub(/ ⌝ [}] [{] *$/, "", text)) return ""
     read_parameters(start)
-    return applied_form(as_words(text))
+    return stated_form(as_words(text))
 }
 
-# `entry_word` of each parameter is how a statement names it at entry, and `exit_word` how it names what it lent, at exit.
-function read_parameters(start,   part, word, k) {
-    split("", entry_word)
-    split("", exit_word)
+# A statement ends in the answer and what was lent at exit, in the order of the parameters. An equation is of the answer, and lends nothing.
+function stated_form(text,   at, form) {
+    if (sub(/^r ≡ /, "", text)) {
+        form = applied_form(text)
+        return form == "" || exits != "" ? "" : "r ≡ " form
+    }
+    at = index(text " ", " r ")
+    return at && substr(text, at + 2) == exits ? applied_form(substr(text, 1, at - 1)) : ""
+}
+
+# How a statement names each parameter at entry, and those that can be written at exit.
+function read_parameters(start,   part, name, k) {
+    forget()
+    exits = ""
     gsub(/^[^(]*\( *|,? *\) -> .*$/, "", start)
-    parameters = split(start, part, /, */)
-    for (k = 1; k <= parameters; k++) {
-        word = part[k]
-        sub(/ *:.*/, "", word)
-        entry_word[k] = (part[k] ~ /: &/ ? "entry@" : "") word
-        if (part[k] ~ /: &mut /) exit_word[k] = "exit@" word
+    named = split(start, part, /, */)
+    for (k = 1; k <= named; k++) {
+        name = part[k]
+        sub(/ *:.*/, "", name)
+        given[(part[k] ~ /: &/ ? "entry@" : "") name] = part[k] ~ /: &mut / ? 2 : 1
+        if (part[k] ~ /: &mut /) exits = exits " exit@" name
     }
 }
 
 # A parameter becomes one word, also where it is read at entry or exit; a list, a record or a mode of parameters becomes them in brackets.
-function as_words(text) {
+function as_words(text,   read, part) {
     gsub(/«/, "", text)
     gsub(/»/, "", text)
     gsub(/\(self \.0\)/, "self", text)
-    while (match(text, /\(now \([a-z_]+ \.(entry|exit)\)\)/)) text = substr(text, 1, RSTART - 1) read_word(substr(text, RSTART, RLENGTH)) substr(text, RSTART + RLENGTH)
+    while (match(text, /\(now \([a-z_]+ \.(entry|exit)\)\)/)) {
+        read = substr(text, RSTART, RLENGTH)
+        split(read, part, /[( .)]+/)
+        text = substr(text, 1, RSTART - 1) part[4] "@" part[3] substr(text, RSTART + RLENGTH)
+    }
     gsub(/\((record [{] [a-z_]+ = |modeOf )/, "(", text)
     gsub(/ [}]\)| ∷ \[\]\)/, ")", text)
     gsub(/ ∷ /, " ", text)
@@ -70,119 +109,80 @@ function as_words(text) {
     return text
 }
 
-function read_word(text,   part) {
-    split(text, part, /[( .)]+/)
-    return part[4] "@" part[3]
-}
-
-# Every parameter stands there once, in front of the answer; then the answer; then, each once and in order, what was lent. `lent_at` is its place at entry.
-function applied_form(text,   word, size, i, k, form, depth, arguments, answered, left, seen, equation) {
-    size = split(text, word, " ")
-    equation = word[1] == "r" && word[2] == "≡"
-    form = equation ? "r ≡ " word[3] : word[1]
-    if (name_of(form) !~ /^[A-Za-z]+$/) return ""
-    answered = equation
-    lent_at = 0
-    for (i = equation ? 4 : 2; i <= size; i++) {
-        if (word[i] == ")" && depth) { depth = 0; continue }
-        if (word[i] == "r" && !answered) { answered = 1; continue }
-        if (!depth && (equation || !answered)) { arguments++; form = form " _" }
-        if (word[i] == "(" && !depth && (equation || !answered)) { depth = 1; continue }
-        k = place_of(word[i], entry_word)
-        if (k && (equation || !answered) && !seen[k]++) {
-            if (k in exit_word) lent_at = arguments
-            continue
-        }
-        k = place_of(word[i], exit_word)
-        if (k && answered && !equation && k > left) { left = k; seen["left"]++; continue }
-        if (word[i] !~ /^[A-Z][A-Za-z]*\.[A-Z][A-Za-z]*$/ || depth || answered) return ""
-        sub(/_$/, word[i], form)
-    }
-    for (k = 1; k <= parameters; k++) if (!seen[k] || ((k in exit_word) && !seen["left"]--)) return ""
-    return answered && !depth && !seen["left"] ? form : ""
-}
-
-function place_of(text, words,   k) {
-    for (k in words) if (words[k] == text) return k + 0
-    return 0
-}
-
 # ---- the laws
 
-# `numbers` are those of the refusals, as the page has them, or none for the law of one answer.
-function check_law(entry, law, form, numbers,   wanted, rest, kind) {
-    rest = type[law]
-    lent_name = ""
-    read_variables(rest)
-    sub(/^(\([A-Za-z ]+ : [^()]*\) )*(→ )?/, "", rest)
-    kind = rest
-    sub(/ .*/, "", kind)
-    wanted = lent_at ? "OneOutcome" : "OneAnswer"
-    if (numbers != "") wanted = lent_at ? "RefusesWhole" : "Refuses"
-    if (kind != wanted || module[file[law], kind] != "Rattle.refusal.specs.Demands") {
-        print entry ": no law " law " by " wanted
-        return
-    }
-    sub(/^[A-Za-z]+ /, "", rest)
-    if (numbers != "") rest = past_numbers(entry, law, rest, numbers)
-    if (stated_form(rest, file[law]) != form || !same_module(entry, law, name_of(form))) print entry ": its law " law " is not of the statement " name_of(form) " of any values"
+# The law is `demand` of the entry's statement.
+function check_law(entry, law, demand, form,   text) {
+    text = opened(entry, law, demand)
+    if (text != "") check_statement(entry, law, text, form)
 }
 
-# The variables that a law binds. A premise would be one that its statement does not name.
-function read_variables(text,   group, part, size, i) {
-    split("", bound)
-    variables = 0
+# The same with the numbers, which are those of the page, and with what is lent, which stands where the contract lends it.
+function check_refusals(entry, law, form, numbers, lent,   text, said, name) {
+    text = opened(entry, law, lent ? "RefusesWhole" : "Refuses")
+    if (text == "") return
+    said = name = text
+    sub(/^[A-Za-z]+ \(/, "", said)
+    sub(/ ∷ \[\]\) .*/, "", said)
+    gsub(/ ∷ /, ", ", said)
+    if (said != numbers) print entry ": its law " law " has the refusals " said ", and the page " numbers
+    sub(/^[A-Za-z]+ \([^()]*\) /, "", text)
+    if (lent) {
+        name = text
+        sub(/ .*/, "", name)
+        sub(/^[^ ]* /, "", text)
+        if (name in given) given[name] = 2
+    }
+    check_statement(entry, law, text, form)
+    if (lent_at != lent) print entry ": its law " law " is not of what is lent"
+}
+
+# What stands behind the demand in a law's type; empty, and a fault, where the law is none of it.
+function opened(entry, law, demand,   text) {
+    text = past_variables(type[law])
+    if (index(text, demand " ") == 1 && module[file[law], demand] == "Rattle.refusal.specs.Demands") return substr(text, length(demand) + 2)
+    print entry ": no law " law " by " demand
+    return ""
+}
+
+# The variables that a law binds, `(n : ℕ) (out : List ℕ) →`, are its `given`: a premise would be one that the statement does not name.
+function past_variables(text,   group, part, size, i) {
+    forget()
     while (match(text, /^\([A-Za-z ]+ : [^()]*\) /)) {
         group = substr(text, 2, RLENGTH)
         text = substr(text, RLENGTH + 1)
         sub(/ :.*/, "", group)
         size = split(group, part, " ")
-        for (i = 1; i <= size; i++) bound[part[i]] = 1
-        variables += size
+        for (i = 1; i <= size; i++) given[part[i]] = 1
+        named += size
     }
-}
-
-# The law's numbers are the page's, in its order; `lent_name` is what it says is lent, which has to stand where the contract lends something.
-function past_numbers(entry, law, text, numbers,   said) {
-    if (!match(text, /^[a-zA-Z]+ \([^()]*\) /)) return ""
-    said = substr(text, 1, RLENGTH)
-    text = substr(text, RLENGTH + 1)
-    gsub(/^[a-zA-Z]+ \(| ∷ \[\]\) $/, "", said)
-    gsub(/ ∷ /, ", ", said)
-    if (said != numbers) print entry ": its law " law " has the refusals " said ", and the page " numbers
-    if (lent_at) {
-        lent_name = text
-        sub(/ .*/, "", lent_name)
-        sub(/^[a-z]+ /, "", text)
-    }
+    if (named && !sub(/^→ /, "", text)) return ""
     return text
 }
 
-# The form of a statement in brackets, of which every variable that the law binds is an argument once.
-function stated_form(text, law_file,   word, size, i, form, seen, used) {
-    if (!sub(/^\(/, "", text) || !sub(/\)$/, "", text)) return ""
-    if (sub(/^λ \(r : [A-Za-z]+\)\. r ≡ /, "", text)) form = "r ≡ "
+function check_statement(entry, law, text, form,   name, equation) {
+    name = name_of(form)
+    if (!sub(/^\(/, "", text) || !sub(/\)$/, "", text)) text = ""
+    equation = sub(/^λ \(r : [A-Za-z]+\)\. r ≡ /, "", text)
+    if ((equation ? "r ≡ " : "") applied_form(constants(text, file[law])) != form || !same_module(entry, law, name))
+        print entry ": its law " law " is not of the statement " name " of any values"
+}
+
+# `T.Name`, where `T` is the variants of `Text`, is the contract's `Text.Name`.
+function constants(text, law_file,   word, size, i, alias, path, last, all) {
     size = split(text, word, " ")
-    form = form word[1]
-    for (i = 2; i <= size; i++) {
-        if ((word[i] in bound) && !seen[word[i]]++) {
-            used++
-            form = form " _"
-        } else if (word[i] ~ /^[A-Z][A-Za-z]*\.[A-Z][A-Za-z]*$/) form = form " " constant(word[i], law_file)
-        else return ""
+    for (i = 1; i <= size; i++) {
+        alias = word[i]
+        if (sub(/\..*/, "", alias)) {
+            last = split(module[law_file, alias], path, ".")
+            sub(/^[^.]*/, path[last - 1], word[i])
+        }
+        all = all (i > 1 ? " " : "") word[i]
     }
-    if (lent_name != "" && word[lent_at + 1] != lent_name) return ""
-    return used == variables ? form : ""
+    return all
 }
 
-# `T.Name` where `T` is the variants of `Text`: `Text.Name`.
-function constant(text, law_file,   part, path, size) {
-    split(text, part, ".")
-    size = split(module[law_file, part[1]], path, ".")
-    return path[size - 1] "." part[2]
-}
-
-function same_module(entry, law, name,   of_contract) {
-    of_contract = module[source[entry], name]
-    return of_contract != "" && of_contract == module[file[law], name]
+# Both mean the same definition by the name.
+function same_module(entry, law, name) {
+    return module[source[entry], name] != "" && module[source[entry], name] == module[file[law], name]
 }

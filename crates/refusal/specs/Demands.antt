@@ -14,7 +14,7 @@ use Rattle.refusal.specs.Judge.{Test, Kind}
 
 -- ---- no second answer fits
 
--- one answer meets the statement; and one that lends: one answer, with what was lent at exit
+-- one answer meets the statement; and, where something is lent, one answer and one state of it at exit
 abbrev pub OneAnswer : {A : Type 0} → (A → Type 0) → Type 0
 OneAnswer {A} statement = (r s : A) → statement r → statement s → r ≡ s
 
@@ -23,11 +23,11 @@ OneOutcome {A} {B} statement = (r s : A) (after later : B) → statement r after
 
 -- ---- total and refusing
 
--- how tests come out: each passes, and success is told; or one fails, those before it passed, and its refusal is told
 abbrev pub allPass : List Test → Bool
 allPass [] = true
 allPass (t ∷ rest) = t .passed && allPass rest
 
+-- one fails, and those before it passed
 pub record FirstFailing (tests : List Test) : Type 0 where
   pub before : List Test
   pub test : Test
@@ -36,6 +36,7 @@ pub record FirstFailing (tests : List Test) : Type 0 where
   pub passed : allPass before ≡ true
   pub failed : test .passed ≡ false
 
+-- what is told: success where each test passes, and else the refusal of the first that fails
 pub data Settled (tests : List Test) (report : Report) : Type 0 where
   accepts : allPass tests ≡ true → report ≡ success → Settled tests report
   refuses : (first : FirstFailing tests) → report ≡ reportOf (first .test .otherwise) → Settled tests report
@@ -45,15 +46,15 @@ pub data Settled (tests : List Test) (report : Report) : Type 0 where
 abbrev pub numberOf : Refusal → ℕ
 numberOf x = reportOf x .0
 
--- a number before others, unless it is the first of them
-abbrev pub before : ℕ → List ℕ → List ℕ
-before n [] = n ∷ []
-before n (m ∷ more) = cond (eqb n m) (m ∷ more) (n ∷ m ∷ more)
+-- a number in front of others, unless it is the first of them
+abbrev pub putFirst : ℕ → List ℕ → List ℕ
+putFirst n [] = n ∷ []
+putFirst n (m ∷ more) = cond (eqb n m) (m ∷ more) (n ∷ m ∷ more)
 
--- the numbers of the tests' refusals, in their order
+-- the numbers of the tests' refusals, in their order, once where tests that follow each other have the same
 abbrev pub numbersIn : List Test → List ℕ
 numbersIn [] = []
-numbersIn (t ∷ rest) = before (numberOf (t .otherwise)) (numbersIn rest)
+numbersIn (t ∷ rest) = putFirst (numberOf (t .otherwise)) (numbersIn rest)
 
 -- one of the numbers, or 0
 abbrev pub Among : List ℕ → ℕ → Type 0

@@ -152,7 +152,8 @@ total-record-at nodes count k = says-refuses
 pub total-children : (nodes : List Node) (count k : ℕ) (out : List ℕ) → RefusesWhole listed (7 ∷ 8 ∷ 6 ∷ []) out (Lists nodes count k out)
 total-children nodes count k out = writes-refuses
 
-pub total-backpropagate : (nodes : List Node) (count start target : ℕ) (score : Float) → RefusesWhole propagated (7 ∷ 8 ∷ 9 ∷ 10 ∷ 11 ∷ []) nodes (Propagates nodes count start target score)
+pub total-backpropagate : (nodes : List Node) (count start target : ℕ) (score : Float)
+    → RefusesWhole propagated (7 ∷ 8 ∷ 9 ∷ 10 ∷ 11 ∷ []) nodes (Propagates nodes count start target score)
 total-backpropagate nodes count start target score = changes-refuses
 
 pub total-solution : (nodes : List Node) (count : ℕ) (out : List ℕ) → RefusesWhole solved (7 ∷ 6 ∷ []) out (Solves nodes count out)

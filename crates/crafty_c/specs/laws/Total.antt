@@ -36,13 +36,16 @@ total-crafty-macro-time list = says-refuses
 pub total-crafty-tree-new : (nodes : List Node) → RefusesWhole answered (6 ∷ []) nodes (TellsPlanted nodes)
 total-crafty-tree-new nodes = changes-refuses
 
-pub total-crafty-tree-insert : (nodes : List Node) (count parent action : ℕ) → RefusesWhole answered (3 ∷ 7 ∷ 8 ∷ 6 ∷ []) nodes (TellsInserted nodes count parent action)
+pub total-crafty-tree-insert : (nodes : List Node) (count parent action : ℕ)
+    → RefusesWhole answered (3 ∷ 7 ∷ 8 ∷ 6 ∷ []) nodes (TellsInserted nodes count parent action)
 total-crafty-tree-insert nodes count parent action = changes-refuses
 
-pub total-crafty-tree-backpropagate : (nodes : List Node) (count start target : ℕ) (score : Float) → RefusesWhole answered (7 ∷ 8 ∷ 9 ∷ 10 ∷ 11 ∷ []) nodes (TellsPropagated nodes count start target score)
+pub total-crafty-tree-backpropagate : (nodes : List Node) (count start target : ℕ) (score : Float)
+    → RefusesWhole answered (7 ∷ 8 ∷ 9 ∷ 10 ∷ 11 ∷ []) nodes (TellsPropagated nodes count start target score)
 total-crafty-tree-backpropagate nodes count start target score = changes-refuses
 
-pub total-crafty-tree-children : (nodes : List Node) (count node : ℕ) (out : List ℕ) → RefusesWhole answered (7 ∷ 8 ∷ 6 ∷ []) out (TellsListed nodes count node out)
+pub total-crafty-tree-children : (nodes : List Node) (count node : ℕ) (out : List ℕ)
+    → RefusesWhole answered (7 ∷ 8 ∷ 6 ∷ []) out (TellsListed nodes count node out)
 total-crafty-tree-children nodes count node out = writes-refuses
 
 pub total-crafty-tree-solution : (nodes : List Node) (count : ℕ) (out : List ℕ) → RefusesWhole solutionAnswered (7 ∷ 6 ∷ []) out (TellsSolved nodes count out)

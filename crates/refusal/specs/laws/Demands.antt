@@ -15,7 +15,7 @@ use Rattle.refusal.specs.declared.Checked.{Checked}
 use Rattle.refusal.specs.declared.Checked.the-variants as C
 use Rattle.refusal.specs.Report.{reportOf, success}
 use Rattle.refusal.specs.Judge.{Test, judged, checksOf, Kind, Says, Writes}
-use Rattle.refusal.specs.Demands.{allPass, FirstFailing, Settled, accepts, refuses, numberOf, before, numbersIn, Among, Refuses, RefusesWhole}
+use Rattle.refusal.specs.Demands.{allPass, FirstFailing, Settled, accepts, refuses, numberOf, putFirst, numbersIn, Among, Refuses, RefusesWhole}
 use Rattle.refusal.specs.laws.Judge.{judged-passed, judged-refused}
 
 -- ---- THE theorem, total and refusing
@@ -55,17 +55,17 @@ refusal-is-not-0 X.TooLong e = omega arith
 
 -- ---- the number is one of the tests'
 
-before-has : (n : ℕ) (numbers : List ℕ) → Among (before n numbers) n
-before-has n [] = inl refl
-before-has n (m ∷ more) = by (eqb n m) refl
+first-has : (n : ℕ) (numbers : List ℕ) → Among (putFirst n numbers) n
+first-has n [] = inl refl
+first-has n (m ∷ more) = by (eqb n m) refl
   where
     by : (b : Bool) → eqb n m ≡ b → Among (cond b (m ∷ more) (n ∷ m ∷ more)) n
     by true e = inl (eqb-true n m e)
     by false e = inl refl
 
-before-keeps : (m : ℕ) (numbers : List ℕ) (n : ℕ) → Among numbers n → Among (before m numbers) n
-before-keeps m [] n a = inr a
-before-keeps m (k ∷ more) n a = by (eqb m k)
+first-keeps : (m : ℕ) (numbers : List ℕ) (n : ℕ) → Among numbers n → Among (putFirst m numbers) n
+first-keeps m [] n a = inr a
+first-keeps m (k ∷ more) n a = by (eqb m k)
   where
     by : (b : Bool) → Among (cond b (k ∷ more) (m ∷ k ∷ more)) n
     by true = a
@@ -78,8 +78,8 @@ among (t ∷ rest) = by (t .passed) (among rest)
   where
     by : (b : Bool) → Among (numbersIn rest) (judged reportOf success rest .0)
         → Among (numbersIn (t ∷ rest)) (cond b (judged reportOf success rest) (reportOf (t .otherwise)) .0)
-    by true later = before-keeps (numberOf (t .otherwise)) (numbersIn rest) _ later
-    by false later = before-has (numberOf (t .otherwise)) (numbersIn rest)
+    by true later = first-keeps (numberOf (t .otherwise)) (numbersIn rest) _ later
+    by false later = first-has (numberOf (t .otherwise)) (numbersIn rest)
 
 module _ {A : Type 0} {kind : Kind A} {tests : List Test} {answer r : A} (s : Says kind tests answer r) where
   pub number-among : Among (numbersIn tests) (kind .told r .0)
