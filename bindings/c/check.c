@@ -1,6 +1,7 @@
-/* Checks of each function of include/crafty.h: an answer, each refusal, and what the room holds then. */
+/* Checks of each function of include/crafty.h: an answer, each refusal, and what the room or the records hold then. */
 #include "../../include/crafty.h"
 
+#include <math.h>
 #include <stdio.h>
 #include <string.h>
 
@@ -108,11 +109,230 @@ static void check_replays(void)
     expect(out[CRAFTY_NUMBERS] == before[CRAFTY_NUMBERS], "no number further");
 }
 
+/* ---- trees. Records 1 and 2 are below record 0, record 3 is below 1, and record 4 is not used. */
+
+enum { COUNT = 4, RECORDS = 5 };
+
+static crafty_node nodes[RECORDS];
+static crafty_node before[RECORDS];
+static size_t numbers[RECORDS];
+
+static void grow(void)
+{
+    nodes[0] = (crafty_node){ 0, 31, 5, 2.5f, 0.75f };
+    nodes[1] = (crafty_node){ 0, 0, 3, -1, 0.5f };
+    nodes[2] = (crafty_node){ 0, 30, 0, 0, 0.5f };
+    nodes[3] = (crafty_node){ 1, 7, 0, 0, 0 };
+    nodes[4] = (crafty_node){ 9, 99, NAN, -8, -0.0f };
+    memcpy(before, nodes, sizeof nodes);
+    for (size_t i = 0; i < RECORDS; i++) numbers[i] = UNTOUCHED;
+}
+
+/* To the bit, without the bytes between the fields. */
+static bool is_same(const crafty_node *a, const crafty_node *b)
+{
+    return a->parent == b->parent && a->action == b->action && memcmp(&a->visits, &b->visits, sizeof a->visits) == 0
+        && memcmp(&a->score_sum, &b->score_sum, sizeof a->score_sum) == 0
+        && memcmp(&a->max_score, &b->max_score, sizeof a->max_score) == 0;
+}
+
+/* The answer, and every record but those that `before` was told of as it was. */
+static void expect_records(crafty_answer answer, uint32_t number, size_t value, const char *what)
+{
+    expect(answer.number == number && answer.value == value, what);
+    for (size_t i = 0; i < RECORDS; i++) expect(is_same(&nodes[i], &before[i]), what);
+    for (size_t i = 0; i < RECORDS; i++) expect(numbers[i] == UNTOUCHED, what);
+    expect_text((crafty_answer){ 0, 0 }, 0, 0, "", what);
+    grow();
+}
+
+static crafty_answer plant(size_t length)
+{
+    return crafty_tree_new(nodes, length);
+}
+
+static crafty_answer insert(size_t length, size_t count, size_t parent, uint8_t action)
+{
+    return crafty_tree_insert(nodes, length, count, parent, action);
+}
+
+static crafty_answer propagate(size_t count, size_t start, size_t target, float score)
+{
+    return crafty_tree_backpropagate(nodes, RECORDS, count, start, target, score);
+}
+
+static crafty_answer list_children(size_t room_length, size_t count, size_t node)
+{
+    return crafty_tree_children(nodes, RECORDS, numbers, room_length, count, node);
+}
+
+static crafty_answer solve(size_t room_length, size_t count, size_t node)
+{
+    crafty_solution solution = crafty_tree_solution(nodes, RECORDS, room, room_length, count);
+    expect(solution.node == node, "the last node of a solution");
+    return (crafty_answer){ solution.number, solution.value };
+}
+
+static void check_growing(void)
+{
+    before[0] = (crafty_node){ 0, 31, 0, 0, 0 };
+    expect_records(plant(1), CRAFTY_SUCCESS, 1, "a new tree");
+    expect_records(plant(0), CRAFTY_NO_ROOM, 1, "refusal 6 of a new tree");
+    before[4] = (crafty_node){ 3, 30, 0, 0, 0 };
+    expect_records(insert(5, 4, 3, 30), CRAFTY_SUCCESS, 4, "an insertion");
+    expect_records(insert(4, 4, 3, 30), CRAFTY_NO_ROOM, 5, "refusal 6 of an insertion counts records");
+    expect_records(insert(4, 4, 4, 30), CRAFTY_UNKNOWN_NODE, 0, "refusal 8 of an insertion, before 6");
+    expect_records(insert(5, 0, 4, 30), CRAFTY_UNSOUND_TREE, 0, "refusal 7 of an insertion, before 8");
+    expect_records(insert(5, 0, 4, 31), CRAFTY_UNKNOWN_ACTION, 0, "refusal 3 of an insertion, before 7");
+}
+
+static void check_propagation(void)
+{
+    before[3] = (crafty_node){ 1, 7, 1, 1, 1 };
+    before[1] = (crafty_node){ 0, 0, 4, 0, 1 };
+    expect_records(propagate(COUNT, 3, 1, 1), CRAFTY_SUCCESS, 0, "a score from 3 up to 1");
+    before[2] = (crafty_node){ 0, 30, 1, -1, 0.5f };
+    expect_records(propagate(COUNT, 2, 2, -1), CRAFTY_SUCCESS, 0, "a score of one record");
+    before[3] = (crafty_node){ 1, 7, 1, 0, 0 };
+    expect_records(propagate(COUNT, 3, 3, -0.0f), CRAFTY_SUCCESS, 0, "+0 stays where -0 comes");
+    before[2] = (crafty_node){ 0, 30, 1, 1e-40f, 0.5f };
+    expect_records(propagate(COUNT, 2, 2, 1e-40f), CRAFTY_SUCCESS, 0, "a subnormal score is kept");
+
+    expect_records(propagate(COUNT, 4, 0, 2), CRAFTY_UNKNOWN_NODE, 0, "refusal 8 of a start");
+    expect_records(propagate(COUNT, 3, 4, 2), CRAFTY_UNKNOWN_NODE, 0, "refusal 8 of a target, before 9");
+    expect_records(propagate(COUNT, 3, 2, 2), CRAFTY_NOT_ABOVE, 0, "refusal 9 of a record beside the way, before 10");
+    expect_records(propagate(COUNT, 1, 3, 0), CRAFTY_NOT_ABOVE, 0, "refusal 9 of a record below");
+    expect_records(propagate(COUNT, 3, 0, 0x1.000002p0f), CRAFTY_BAD_SCORE, 0, "refusal 10 of a score above 1");
+    expect_records(propagate(COUNT, 3, 0, -0x1.000002p0f), CRAFTY_BAD_SCORE, 0, "refusal 10 of a score below -1");
+    expect_records(propagate(COUNT, 3, 0, NAN), CRAFTY_BAD_SCORE, 0, "refusal 10 of a NaN");
+}
+
+/* Record 0 with so many visits, and what an answer is to leave of it. */
+static void visit_root(float visits, float after)
+{
+    nodes[0].visits = visits;
+    before[0].visits = after;
+}
+
+static void check_full_visits(void)
+{
+    visit_root(16777215, 16777216);
+    before[0].score_sum = 2.75f;
+    expect_records(propagate(COUNT, 0, 0, 0.25f), CRAFTY_SUCCESS, 0, "the last visit");
+    visit_root(16777216, 16777216);
+    expect_records(propagate(COUNT, 3, 0, 0.25f), CRAFTY_VISITS_FULL, 0, "refusal 11");
+    visit_root(16777216, 16777216);
+    expect_records(propagate(COUNT, 3, 0, 2), CRAFTY_BAD_SCORE, 0, "refusal 10 before 11");
+    visit_root(16777216, 16777216);
+    before[2] = (crafty_node){ 0, 30, 1, 0.25f, 0.5f };
+    expect_records(propagate(COUNT, 2, 2, 0.25f), CRAFTY_SUCCESS, 0, "full visits beside the way");
+}
+
+static void check_paths(void)
+{
+    crafty_answer answer = list_children(RECORDS, COUNT, 0);
+    expect(numbers[0] == 1 && numbers[1] == 2, "the children of record 0");
+    numbers[0] = numbers[1] = UNTOUCHED;
+    expect_records(answer, CRAFTY_SUCCESS, 2, "children");
+    expect_records(list_children(0, COUNT, 3), CRAFTY_SUCCESS, 0, "a record without children");
+    expect_records(list_children(1, COUNT, 0), CRAFTY_NO_ROOM, 2, "refusal 6 of children");
+    expect_records(list_children(1, COUNT, 4), CRAFTY_UNKNOWN_NODE, 0, "refusal 8 of children");
+
+    answer = solve(ROOM, COUNT, 2);
+    expect(room[0] == 30, "the last of equals");
+    room[0] = UNTOUCHED;
+    expect_records(answer, CRAFTY_SUCCESS, 1, "a solution");
+    nodes[1].max_score = before[1].max_score = 0x1.000002p-1f;
+    answer = solve(2, COUNT, 3);
+    expect(room[0] == 0 && room[1] == 7, "the greater, and below it");
+    room[0] = room[1] = UNTOUCHED;
+    expect_records(answer, CRAFTY_SUCCESS, 2, "a solution of two");
+    nodes[1].max_score = before[1].max_score = 0x1.000002p-1f;
+    expect_records(solve(1, COUNT, 0), CRAFTY_NO_ROOM, 2, "refusal 6 of a solution");
+    expect_records(solve(0, 1, 0), CRAFTY_SUCCESS, 0, "a solution of record 0 alone");
+}
+
+struct placed {
+    size_t at;
+    crafty_node record;
+    const char *what;
+};
+
+static const struct placed unsound[] = {
+    { 0, { 1, 31, 0, 0, 0 }, "refusal 7 of a root with a parent" },
+    { 0, { 0, 30, 0, 0, 0 }, "refusal 7 of a root with an action" },
+    { 2, { 2, 0, 0, 0, 0 }, "refusal 7 of a record that is its own parent" },
+    { 2, { 0, 31, 0, 0, 0 }, "refusal 7 of a record with action 31" },
+    { 2, { 0, 0, NAN, 0, 0 }, "refusal 7 of visits that are a NaN" },
+    { 2, { 0, 0, -0x1p-149f, 0, 0 }, "refusal 7 of visits below 0" },
+    { 2, { 0, 0, 0x1p-149f, 0, 0 }, "refusal 7 of visits that are not whole" },
+    { 2, { 0, 0, 16777218, 0, 0 }, "refusal 7 of too many visits" },
+    { 2, { 0, 0, 2, NAN, 0 }, "refusal 7 of a sum that is a NaN" },
+    { 2, { 0, 0, 2, 0x1.000002p1f, 0 }, "refusal 7 of a sum above the visits" },
+    { 2, { 0, 0, 2, -0x1.000002p1f, 0 }, "refusal 7 of a sum as far below 0" },
+    { 2, { 0, 0, 2, 0, NAN }, "refusal 7 of a maximum that is a NaN" },
+    { 2, { 0, 0, 2, 0, -0.0f }, "refusal 7 of a maximum of minus zero" },
+    { 2, { 0, 0, 2, 0, -0x1p-149f }, "refusal 7 of a maximum below 0" },
+    { 2, { 0, 0, 2, 0, 0x1.000002p0f }, "refusal 7 of a maximum above 1" },
+};
+
+static const struct placed sound[] = {
+    { 0, { 0, 31, 0, 0, 0 }, "a root that was never visited" },
+    { 2, { 1, 30, 16777216, 16777216, 1 }, "a record with the most of all" },
+    { 2, { 0, 0, 16777216, -16777216, 0 }, "a record with the least sum" },
+    { 2, { 0, 0, 1, 0, 0x1p-149f }, "a record with the least maximum above 0" },
+    { 2, { 0, 0, -0.0f, -0.0f, 0 }, "a record with visits of minus zero" },
+};
+
+static void place(const struct placed *p)
+{
+    nodes[p->at] = before[p->at] = p->record;
+}
+
+/* Of a count too. */
+static void expect_unsound(size_t count, const struct placed *p)
+{
+    place(p);
+    expect_records(insert(RECORDS, count, 0, 0), CRAFTY_UNSOUND_TREE, 0, p->what);
+    place(p);
+    expect_records(propagate(count, 0, 0, 0), CRAFTY_UNSOUND_TREE, 0, p->what);
+    place(p);
+    expect_records(list_children(RECORDS, count, 0), CRAFTY_UNSOUND_TREE, 0, p->what);
+    place(p);
+    expect_records(solve(ROOM, count, 0), CRAFTY_UNSOUND_TREE, 0, p->what);
+}
+
+static void check_soundness(void)
+{
+    static const struct placed none = { 2, { 0, 0, 0, 0, 0 }, "refusal 7 of a count of 0" };
+    static const struct placed all = { 4, { 0, 0, 0, 0, 0 }, "refusal 7 of a count above the records" };
+    expect_unsound(0, &none);
+    expect_unsound(RECORDS + 1, &all);
+    place(&all);
+    expect_records(list_children(0, RECORDS, 4), CRAFTY_SUCCESS, 0, "a count of all records");
+    for (size_t i = 0; i < sizeof unsound / sizeof *unsound; i++) expect_unsound(COUNT, &unsound[i]);
+    for (size_t i = 0; i < sizeof sound / sizeof *sound; i++) {
+        place(&sound[i]);
+        expect_records(list_children(0, COUNT, 3), CRAFTY_SUCCESS, 0, sound[i].what);
+    }
+}
+
+static void check_trees(void)
+{
+    grow();
+    check_growing();
+    check_propagation();
+    check_full_visits();
+    check_paths();
+    check_soundness();
+}
+
 int main(void)
 {
     fill();
     check_lists();
     check_texts();
     check_replays();
+    check_trees();
     return failed;
 }

@@ -1,16 +1,23 @@
-// The replay program: reads standard input and writes what `crafty::replay_output` gives for it.
+// The replay program: reads standard input to its end and writes what `crafty::replay_output` gives for it.
+mod input;
+
 use crafty::Written;
-use libc::STDIN_FILENO;
+use input::ROOM;
+use input::Reading;
+use libc::STDERR_FILENO;
 use libc::STDOUT_FILENO;
-use refusal::SIZE_MOST;
 use transcript::TRANSCRIPT_MOST;
 
-// The input's room has one byte more than an input may have, so that a longer one is seen to be; that of the output is always enough (`printed-whole`).
+// The output's room is always enough (`printed-whole`).
 fn main() {
-    let mut input = [0u8; SIZE_MOST + 1];
-    let got = io::read_full(STDIN_FILENO, &mut input);
+    let mut input = [0u8; ROOM];
+    let reading = input::read(&mut input);
+    let Reading::Whole(length) = reading else {
+        io::write_all(STDERR_FILENO, b"replay: the input could not be read; nothing was judged\n");
+        return;
+    };
     let mut out = [0u8; TRANSCRIPT_MOST];
-    let written = crafty::replay_output(&input[..got], &mut out);
+    let written = crafty::replay_output(&input[..length], &mut out);
     let Written::Length(k) = written else {
         return;
     };
