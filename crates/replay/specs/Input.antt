@@ -1,4 +1,5 @@
--- What a read of the program's input says of the whole, by POSIX: -1 where it failed, 0 at the input's end, or how many bytes it put into the room.
+-- What the replay program (document 01, "The replay program") takes for the whole of standard input. By POSIX a read answers -1 where it
+-- failed, 0 at the input's end, or how many bytes it put into the room.
 -- Assumes nothing.
 use mathlib.Core.Bool.{cond}
 use Prim.Native.Nat.{ℕ, _+_, _≤_}
@@ -8,7 +9,7 @@ use Rattle.refusal.specs.Judge.{sizeMost}
 use Rattle.replay.specs.declared.input.Reading.{Reading}
 use Rattle.replay.specs.declared.input.Reading.the-variants.{Failed, Whole, Open}
 
--- in bytes: one more than an input may have
+-- in bytes: one more than an input may have, so that one that fills it is refused by 13
 abbrev pub room : ℕ
 room = sizeMost + 1
 

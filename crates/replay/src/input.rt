@@ -1,4 +1,4 @@
-// Standard input, read to its end. An input whose reading fails does not end there: it is judged as a whole or not at all.
+// Standard input, read to its end. Where a read fails the input does not end: it is judged as a whole or not at all.
 ghost use mathlib.Core.Path.{_≡_};
 ghost use Prim.Native.Nat.{_≤_};
 ghost use lib.ListN.{length};
@@ -30,9 +30,9 @@ fn after(at: usize, got: isize) -> Reading
     Reading::Open(at + got as usize)
 }
 
-// Reads until a read fails, the input ends or the room is full.
+// Reads until a read fails, the input ends or the room is full: such an input is too long, whatever comes after it.
 pub fn read(input: &mut [u8]) -> Reading
-    requires { ⌜ length (now input) ≤ room ⌝ }
+    requires { ⌜ length (now input) ≡ room ⌝ }
     ensures { λ r. ⌜ Ended r (length (now (input .exit))) ⌝ }
 {
     let mut at = 0;

@@ -1,21 +1,19 @@
--- `replay::main` meets its contract: what it lends is within its rooms.
+-- `replay::main` meets its contract: a whole input is within the room that it was read into.
 -- Assumes nothing.
-use mathlib.Core.Path.{sym}
+use mathlib.Core.Path.{sym, subst}
 use Prim.Native.Nat.{_≤_}
-use native.Mathlib.Omega.{arith}
-use lib.ListN.{length, take}
+use lib.ListN.{length}
 use lib.Seq.{length-take-le}
 use borrow.Author.Needs.{needs}
-use Rattle.crafty.specs.laws.Program.{printed-within}
+use Rattle.replay.specs.Input.{Ended}
+use Rattle.replay.specs.declared.input.Reading.{Reading}
 use Rattle.replay.proofs.main.Statement.{statement}
 use Rattle.replay.proofs.main.Tie as tie
 
--- what is printed is within the room
-within : (c : tie.After-written) → c .written .given .0 .0 ≤ length (c .before .before .before .replay-output .last .1 .0)
+within : (c : tie.After-reading) → c .reading .given .0 .0 ≤ length (c .before .before .before .read .last .0)
 within c =
-    let run = c .before .before .before in
-    let got = run .before .before .before .before in
-    omega (arith, printed-within (take (got .read-full .result) (got .read-full .last .1 .0)) (run .replay-output .ensures) (omega arith) (c .written .given .1), run .replay-output .kept .1 .0)
+    let read = c .before .before .before in
+    subst (λ (r : Reading). Ended r (length (read .read .last .0))) (c .reading .given .1) (read .read .ensures)
 
 pub main-spec : {M : Type 1} → statement M
 main-spec =
@@ -24,11 +22,7 @@ main-spec =
     (λ c. search needs)
     (λ c κs. search needs)
     (λ c. search needs)
-    (λ c. search needs)
-    (λ c. search needs)
     (λ c κs. search needs)
-    (λ c. search needs)
-    (λ c. search needs)
     (λ c. search needs)
     (λ c. within (c .before))
     (λ c. sym (length-take-le _ _ (within (c .before .before))))
