@@ -3,6 +3,7 @@
 # at hand, and runs under the kit's emulator, loader and C library.
 
 root=$(cd "$(dirname "${BASH_SOURCE[0]}")/.." && pwd)
+source "$root/progress.sh"
 kit=$(cd "$(dirname "$(readlink -f "$(command -v rt)")")/.." && pwd)
 tools=$kit/on/$(uname -m)/toolchain
 built=$root/target/bindings
@@ -21,7 +22,7 @@ has_compiler() {
 build_archive() {
     mkdir -p "$built"
     [ -n "$(find "$root/crates" "$root/crates.txt" -newer "$archive" 2>&1 | head -n 1)" ] || return 0
-    (cd "$root" && rt staticlib crafty_c) > "$built/archive.log" 2>&1 || { cat "$built/archive.log" >&2; exit 1; }
+    prove "$built/archive.log" "$(count_crates crafty_c)" staticlib crafty_c || { cat "$built/archive.log" >&2; exit 1; }
 }
 
 # build_program NAME SOURCE: target/bindings/NAME, with the archive in it.

@@ -11,6 +11,10 @@ int main(void)
 {
     static uint8_t input[INPUT_MOST];
     size_t length = fread(input, 1, sizeof input, stdin);
+    if (ferror(stdin)) {
+        perror("print: the input could not be read; nothing was judged");
+        return 1;
+    }
 
     crafty_answer asked = crafty_print(input, length, NULL, 0);
     if (asked.number != CRAFTY_NO_ROOM) return 1;
