@@ -4,10 +4,17 @@
  *
  * What the host owes: a pointer and a length are a run of that many bytes or numbers that stays there during the call;
  * what is lent to be written is used by nobody else meanwhile, and does not overlap what is read. Where the length is 0
- * nothing is read or written, and the pointer may be null. Beyond that every function takes any numbers and any bytes.
+ * nothing is read or written, and the pointer may be null. And it owes the floating-point environment in which a
+ * program starts: round to nearest, no flush to zero and no denormals are zero, no exception unmasked. Beyond that every
+ * function takes any numbers and any bytes.
+ *
+ * Every bit that is proved rests on that environment; in another nothing is promised. Under fesetround(FE_UPWARD) a
+ * craft that scores 3E94BC6A scores 3E94BC6C; with flush to zero a back-propagated 1e-40 is stored as 0; with an
+ * unmasked inexact exception a score ends the process. Code that was linked with -ffast-math may set flush to zero
+ * where it is loaded.
  *
  * What the host gets: every function is proved to answer what crates/crafty_c/specs says, for every input. A refusal
- * leaves all that was lent as it was; a success writes as much as it says, and no byte or number further. */
+ * leaves all that was lent as it was; a success writes as much as it says, and no byte, number or record further. */
 #ifndef CRAFTY_H
 #define CRAFTY_H
 
@@ -19,8 +26,9 @@
 extern "C" {
 #endif
 
-/* The answer of every function. `number` is 0 for success, or that of a refusal. `value` is then how much was written
- * or, with CRAFTY_UNKNOWN_ACTION, CRAFTY_UNKNOWN_WORD and CRAFTY_NO_ROOM, what also comes back; with others it is 0. */
+/* The answer of every function. `number` is 0 for success, or that of a refusal. `value` of a success is said at each
+ * function; with CRAFTY_UNKNOWN_ACTION, CRAFTY_UNKNOWN_WORD and CRAFTY_NO_ROOM it is what also comes back, and with
+ * every other refusal 0. */
 typedef struct crafty_answer {
     uint32_t number;
     size_t value;
@@ -33,8 +41,8 @@ enum {
     CRAFTY_OUTSIDE_LIMITS = 1, /* a number of the context is outside its limit, or does not fit its field */
     CRAFTY_UNKNOWN_ACTION = 3, /* an action's number is above 30; value: the first such place in the list, from 0 */
     CRAFTY_UNKNOWN_WORD = 5,   /* a word is no action's name; value: the byte where the first such word starts */
-    CRAFTY_NO_ROOM = 6,        /* what was lent is too short; value: how many bytes or numbers are needed */
-    CRAFTY_UNSOUND_TREE = 7,   /* a record below the count is unsound, or the count is 0 or above the records */
+    CRAFTY_NO_ROOM = 6,        /* what was lent is too short; value: how many bytes, numbers or records are needed */
+    CRAFTY_UNSOUND_TREE = 7,   /* the tree is not sound, as said at crafty_node */
     CRAFTY_UNKNOWN_NODE = 8,   /* a node's number is not below the count */
     CRAFTY_NOT_ABOVE = 9,      /* the target is neither the start nor above it */
     CRAFTY_BAD_SCORE = 10,     /* a score is a NaN or outside -1 to 1 */
@@ -79,7 +87,7 @@ enum {
 };
 
 /* Replays a list of actions, one byte to an action, from the start of a craft, in plain or in strict mode. The context
- * is its fifteen fields; the four flags are 0 or 1. Writes CRAFTY_NUMBERS numbers, which is the value of a success.
+ * is its fifteen fields; the four flags are 0 or 1. Writes CRAFTY_NUMBERS numbers. Value: CRAFTY_NUMBERS.
  * Refused by 1, 3 (also past the place where the replay would stop), 6. */
 crafty_answer crafty_replay(
     uint32_t player_job_level,
@@ -103,23 +111,31 @@ crafty_answer crafty_replay(
 
 /* Replays the input of the program `replay`: a line of the fifteen fields, 1 to 10 digits each, and then a list as
  * text; in plain mode. Writes the state's line at the start and after each executed action, and the line of the
- * result. Refused by 13, 12, 1, 5 (the offset counts from the start of the input), 6. */
+ * result. Value: the bytes written. Refused by 13, 12, 1, 5 (the offset counts from the start of the input), 6. */
 crafty_answer crafty_replay_text(const uint8_t *input, size_t input_length, uint8_t *out, size_t out_length);
 
-/* What the program `replay` prints for an input: the same text, or `refused N` and a line feed. Refused by 6. */
+/* Writes what the program `replay` prints for an input: the same text, or `refused N` and a line feed. Value: the bytes
+ * written. Refused by 6. */
 crafty_answer crafty_print(const uint8_t *input, size_t input_length, uint8_t *out, size_t out_length);
 
-/* The actions that a text names, one byte to an action: words parted by bytes 9, 10, 13 and 32. Refused by 5, 6. */
+/* Writes the actions that a text names, one byte to an action: words parted by bytes 9, 10, 13 and 32. Value: how many.
+ * Refused by 5, 6. */
 crafty_answer crafty_read_list(const uint8_t *text, size_t text_length, uint8_t *out, size_t out_length);
 
-/* A list as text: each action's name and a line feed. Refused by 13, 3, 6. */
+/* Writes a list as text: each action's name and a line feed. Value: the bytes written. Refused by 13, 3, 6. */
 crafty_answer crafty_write_list(const uint8_t *list, size_t list_length, uint8_t *out, size_t out_length);
 
-/* A list's macro time: the value of a success is the sum of its waits in seconds. Refused by 13, 3. */
+/* A list's macro time. Value: the sum of its waits in seconds. Refused by 13, 3. */
 crafty_answer crafty_macro_time(const uint8_t *list, size_t list_length);
 
-/* A record of the search's tree. Record 0 has parent 0 and action 31; every other record a parent below its own number
- * and an action up to 30. The first `count` records of a lent run are the tree; the others may hold anything. */
+/* A record of the search's tree. The first `count` records of a lent run are the tree; the others may hold anything.
+ * A tree is sound if the count is at least 1 and at most the records lent, and if each record below it is sound:
+ *   parent, action   in record 0 the parent is 0 and the action 31; in every other the parent is below the record's own
+ *                    number and the action at most 30
+ *   visits           a whole number from 0 to 16,777,216
+ *   score_sum        from -visits to visits
+ *   max_score        from +0 to 1, and not minus zero
+ * None of the three is a NaN. What takes a sound tree leaves a sound one. */
 typedef struct crafty_node {
     size_t parent;
     uint8_t action;
@@ -128,30 +144,32 @@ typedef struct crafty_node {
     float max_score;
 } crafty_node;
 
-/* The answer of crafty_tree_solution: `value` is the length of a success, and `node` its last node, else 0. */
+/* The answer of crafty_tree_solution: as crafty_answer, and of a success the last node; of a refusal `node` is 0. */
 typedef struct crafty_solution {
     uint32_t number;
     size_t value;
     size_t node;
 } crafty_solution;
 
-/* A new tree: writes record 0. The value is the count, 1. Refused by 6 (no record). */
+/* A new tree: writes record 0, with no visit. Value: the count, 1. Refused by 6 (1 record is needed). */
 crafty_answer crafty_tree_new(crafty_node *nodes, size_t nodes_length);
 
-/* Writes a new record, number `count`, below a parent. The value is its number; the count is then one more. Refused by
- * 3, 7, 8, 6. */
+/* Writes a new record, number `count`, with no visit, below a parent. Value: its number; the count is then one more.
+ * Refused by 3 (value 0), 7, 8 (the parent), 6 (count + 1 records are needed). */
 crafty_answer crafty_tree_insert(
     crafty_node *nodes, size_t nodes_length, size_t count, size_t parent, uint8_t action);
 
-/* One visit more, with a score from -1 to 1, of each record from `start` up to `target`. Refused by 7, 8, 9, 10, 11. */
+/* Each record from `start` up to `target` gets one visit more, the score, which is from -1 to 1, in its sum, and the
+ * greater maximum. Value: 0. Refused by 7, 8 (start or target), 9, 10, 11. */
 crafty_answer crafty_tree_backpropagate(
     crafty_node *nodes, size_t nodes_length, size_t count, size_t start, size_t target, float score);
 
-/* The numbers of a record's children, in record order. The value is how many. Refused by 7, 8, 6. */
+/* Writes the numbers of a record's children, in record order. Value: how many. Refused by 7, 8, 6. */
 crafty_answer crafty_tree_children(
     const crafty_node *nodes, size_t nodes_length, size_t *out, size_t out_length, size_t count, size_t node);
 
-/* From record 0 the child of greatest max_score, the last of equals, and so on: their actions. Refused by 7, 6. */
+/* From record 0 the child of greatest max_score, the last of equals, and so on until there is none: writes their
+ * actions. Value: how many. Refused by 7, 6. */
 crafty_solution crafty_tree_solution(
     const crafty_node *nodes, size_t nodes_length, uint8_t *out, size_t out_length, size_t count);
 

@@ -1,5 +1,10 @@
 //! The crafting-rules engine for hosts in Rust. Every function takes any input; a refusal says by document 01's number
 //! what is wrong with it. An action is its number, 0 to 30, one byte to an action in a list.
+//!
+//! Every bit of an answer rests on the floating-point environment in which a program starts: round to nearest, no flush
+//! to zero and no denormals are zero, no exception unmasked. Rust itself takes it for granted, but C code in the same
+//! process can change it. In another environment nothing is promised: rounding upward, a craft that scores 3E94BC6A
+//! scores 3E94BC6C; with an unmasked inexact exception a score ends the process.
 
 mod archive;
 mod context;
