@@ -36,7 +36,7 @@ show_progress() {
             "rt: must-fail "*": refused, "*)
                 edits=$((edits + 1))
                 name=${name#must-fail }
-                echo "refused, as it must be, $edits of $every: ${name%%:*}"
+                echo "refused $edits of $every edits: ${name%%:*}"
                 ;;
         esac
     done >&2

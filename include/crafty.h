@@ -2,11 +2,11 @@
  * builds for x86-64 Linux. It keeps nothing between calls, allocates nothing, and any number of threads may call it.
  * Of C's library it needs memcpy and memset. A call takes up to some 100 KB of stack.
  *
- * What the host owes: a pointer and a length are a run of that many bytes or numbers that stays there during the call;
- * what is lent to be written is used by nobody else meanwhile, and does not overlap what is read. Where the length is 0
- * nothing is read or written, and the pointer may be null. And it owes the floating-point environment in which a
- * program starts: round to nearest, no flush to zero and no denormals are zero, no exception unmasked. Beyond that every
- * function takes any numbers and any bytes.
+ * What the host owes: a pointer and a length are a run of that many bytes, numbers or records that stays there during
+ * the call; what is lent to be written is used by nobody else meanwhile, and does not overlap what is read. Where the
+ * length is 0 nothing is read or written, and the pointer may be null. And it owes the floating-point environment in
+ * which a program starts: round to nearest, no flush to zero and no denormals are zero, no exception unmasked. Beyond
+ * that every function takes any numbers and any bytes.
  *
  * Every bit that is proved rests on that environment; in another nothing is promised. Under fesetround(FE_UPWARD) a
  * craft that scores 3E94BC6A scores 3E94BC6C; with flush to zero a back-propagated 1e-40 is stored as 0; with an
