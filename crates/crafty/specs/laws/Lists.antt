@@ -17,6 +17,7 @@ use Rattle.refusal.specs.declared.Refusal.the-variants.{UnknownWord, NoRoom}
 use Rattle.text.specs.Over.{over, Put}
 use Rattle.text.specs.laws.Over.{take-put}
 use Rattle.action.specs.Known.{knownFront}
+use Rattle.action.specs.laws.Known.{all-front}
 use Rattle.rotation.specs.Words.{actionsIn, wordsKnown, unknownAt, wordsTest}
 use Rattle.rotation.specs.First.{FirstUnknown}
 use Rattle.rotation.specs.laws.First.{unknown-first}
@@ -37,7 +38,7 @@ short text out h = stopped-room (rw (lt-leb _ _ h)) refl refl
 
 written : (list out : List ℕ) → length list ≤ sizeMost → length list ≤ knownFront list → length (listTextOf list) ≤ length out
     → WritesList list out (Length (length (listTextOf list))) (over out 0 (listTextOf list))
-written list out size known room = onward-room (rw (le-leb _ _ size)) refl (onward-room (rw (le-leb _ _ known)) refl (fits (listTextOf list) out room))
+written list out size known room = onward-room (rw (le-leb _ _ size)) refl (onward-room (rw (all-front list ∙ le-leb _ _ known)) refl (fits (listTextOf list) out room))
 
 known-words : (text : List ℕ) {out : List ℕ} {r : Written} {after : List ℕ} → wordsKnown text ≡ true → Fits (actionsIn text) out r after → ReadsList text out r after
 known-words text t w = onward-room (rw t) refl w
