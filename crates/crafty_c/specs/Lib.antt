@@ -1,6 +1,6 @@
 pub mod Answer
 pub mod Numbers
-pub mod TellsNumbers
+pub mod Reports
 pub mod Texts
 pub mod Trees
 pub mod laws
