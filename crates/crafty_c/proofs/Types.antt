@@ -13,15 +13,15 @@ use Rattle.crafty_c.proofs.answer.CraftyAnswer as A
 use Rattle.crafty_c.proofs.answer.CraftyAnswer.Laws as A′
 use Rattle.crafty_c.proofs.trees.CraftySolution as S
 use Rattle.crafty_c.proofs.trees.CraftySolution.Laws as S′
-use Rattle.walks.proofs.Values.{Kind, usize′, u8′, f32′, struct′}
+use Rattle.walks.proofs.Values.{Datum, usize′, u8′, f32′, struct′}
 use Rattle.walks.proofs.Functions.{nothing-asked, MutFn, BothFn, PlainFn}
 
 -- ---- types
 
-abbrev pub answer′ : Kind
+abbrev pub answer′ : Datum
 answer′ = struct′ A.the-type A′.the-laws A′.the-copy A′.the-plain
 
-abbrev pub solution′ : Kind
+abbrev pub solution′ : Datum
 solution′ = struct′ S.the-type S′.the-laws S′.the-copy S′.the-plain
 
 -- ---- answers in numbers
