@@ -1,4 +1,5 @@
--- What each public entry over single actions answers, for any number or bytes: its tests in the order of the refusals, then its answer.
+-- Document 01, 'Action table' and 'Text': what each public entry over single actions answers, for any number or bytes: its tests in the order of the
+-- refusals, then its answer.
 -- Assumes nothing.
 use mathlib.Core.Path.{refl}
 use mathlib.Core.List.{List, [], _∷_}

@@ -1,4 +1,4 @@
--- The replay program, for any bytes: its tests in the order of the refusals, its text, and what it prints.
+-- Document 01, 'The replay program', for any bytes: its tests in the order of the refusals, its text, and what it prints.
 -- Assumes nothing.
 use mathlib.Core.List.{List, [], _∷_, _++_}
 use Prim.Native.Nat.{ℕ, _+_}

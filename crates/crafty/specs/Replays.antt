@@ -1,4 +1,4 @@
--- What the public entry of replay answers, for any context, mode and list.
+-- Document 01, 'Results and scores', and demand 3: what the public entry of replay answers, for any context, mode and list.
 -- Assumes nothing.
 use mathlib.Core.Path.{_≡_, refl}
 use mathlib.Core.List.{List, [], _∷_, _++_}

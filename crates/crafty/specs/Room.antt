@@ -1,4 +1,5 @@
--- Text into lent room: what an entry that writes answers, and what the room holds then.
+-- Document 01, 'What comes back on refusal': 'a refusal writes nothing; a success writes its length and no further'. What an entry that writes text
+-- answers, and what the room holds then.
 -- Assumes nothing.
 use mathlib.Core.Path.{refl}
 use mathlib.Core.List.{List, [], _∷_, _++_}

@@ -1,4 +1,5 @@
--- What each public entry over states answers, for any context, state, mode and number: its tests in the order of the refusals, then its answer.
+-- Document 01, 'One action', 'Legal moves' and 'Results and scores': what each public entry over states answers, for any context, state, mode and
+-- number: its tests in the order of the refusals, then its answer.
 -- Assumes nothing.
 use mathlib.Core.Path.{_≡_, refl}
 use mathlib.Core.Bool.{not}

@@ -1,4 +1,5 @@
--- An entry's answer, from its tests in the order in which document 01 has them: the first that fails refuses, and changes nothing that was lent.
+-- Document 01, 'What comes back on refusal', below the table: an entry's answer, from its tests in order. The first that fails refuses, and changes
+-- nothing that was lent. Rows 6 and 13 of the table, which belong to no one crate.
 -- Assumes nothing.
 use mathlib.Core.Path.{_≡_, refl}
 use mathlib.Core.Bool.{Bool, cond}

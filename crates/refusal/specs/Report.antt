@@ -1,4 +1,4 @@
--- Document 01's number of each refusal, and what also comes back.
+-- Document 01, 'What comes back on refusal': the table's numbers, and what is also returned.
 -- Assumes nothing.
 use Prim.Native.Nat.{ℕ}
 use Rattle.refusal.specs.declared.Refusal.{Refusal}

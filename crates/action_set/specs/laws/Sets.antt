@@ -49,7 +49,8 @@ joined-next s n rest =
     (λ m h. rw (has-with actions s n m h) (or-assoc (has s m) (eqb m n) (elem rest m)))
 
 -- a turn of the loop over a list
-pub joined-turn : (list : List ℕ) (i s : ℕ) {r : ℕ} → i < length list → r ≡ withOf s (getD list i 0) → joined r (drop (i + 1) list) ≡ joined s (drop i list)
+pub joined-turn : (list : List ℕ) (i s : ℕ) {r : ℕ} → i < length list → r ≡ withOf s (getD list i 0)
+    → joined r (drop (i + 1) list) ≡ joined s (drop i list)
 joined-turn list i s {r} h e =
     ap (λ (x : ℕ). joined x (drop (i + 1) list)) e
     ∙ joined-next s (getD list i 0) (drop (i + 1) list)

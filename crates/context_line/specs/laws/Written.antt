@@ -66,7 +66,8 @@ last-reads n h =
     rw append-nil at r
 
 -- a number before others
-next-reads : (n : ℕ) → Brief n → {more : ℕ} {rest numbers : List ℕ} → Reads more rest numbers → Reads (suc more) (decimalOf n ++ 32 ∷ rest) (n ∷ numbers)
+next-reads : (n : ℕ) → Brief n → {more : ℕ} {rest numbers : List ℕ} → Reads more rest numbers
+    → Reads (suc more) (decimalOf n ++ 32 ∷ rest) (n ∷ numbers)
 unfolding shaped valuesOf
 next-reads n h {more} {rest} r =
     let text = decimalOf n ++ 32 ∷ rest in

@@ -40,12 +40,14 @@ written : (list out : List ℕ) → length list ≤ sizeMost → length list ≤
     → WritesList list out (Length (length (listTextOf list))) (over out 0 (listTextOf list))
 written list out size known room = onward-room (rw (le-leb _ _ size)) refl (onward-room (rw (all-front list ∙ le-leb _ _ known)) refl (fits (listTextOf list) out room))
 
-known-words : (text : List ℕ) {out : List ℕ} {r : Written} {after : List ℕ} → wordsKnown text ≡ true → Fits (actionsIn text) out r after → ReadsList text out r after
+known-words : (text : List ℕ) {out : List ℕ} {r : Written} {after : List ℕ} → wordsKnown text ≡ true → Fits (actionsIn text) out r after
+    → ReadsList text out r after
 known-words text t w = onward-room (rw t) refl w
 
 -- ---- the round trip, over what the two entries answer
 
--- for every list of known actions that is short enough, and every room that is long enough: the writer writes its text, and from the bytes written the reader reads the list
+-- for every list of known actions that is short enough, and every room that is long enough: the writer writes its text,
+-- and from the bytes written the reader reads the list
 pub written-read : (list out : List ℕ) {r : Written} {after : List ℕ} (room : List ℕ) {s : Written} {later : List ℕ}
     → length list ≤ sizeMost → length list ≤ knownFront list → length (listTextOf list) ≤ length out → length list ≤ length room
     → WritesList list out r after → ReadsList (take (length (listTextOf list)) after) room s later
@@ -63,7 +65,8 @@ written-read list out {r} {after} room {s} {later} size known enough place w q =
 
 -- ---- a text is read in one way
 
-pub one-reading : (text : List ℕ) {out : List ℕ} {r s : Written} {after later : List ℕ} → ReadsList text out r after → ReadsList text out s later → (r ≡ s) × (after ≡ later)
+pub one-reading : (text : List ℕ) {out : List ℕ} {r s : Written} {after later : List ℕ} → ReadsList text out r after
+    → ReadsList text out s later → (r ≡ s) × (after ≡ later)
 one-reading text a b = one-outcome a b
 
 -- ---- what refusal 5 tells: the start of the first word that is no name
@@ -78,7 +81,8 @@ refused-first text {out} {k} w =
     let z : _≡_ {A = ℕ} 0 1 = cc in
     absurd (omega arith))
     (λ (h : leb (length (actionsIn text)) (length out) ≡ false).
-    let e : Refused (UnknownWord k) ≡ Refused (NoRoom (length (actionsIn text))) = one-outcome w (known-words text t (short (actionsIn text) out (leb-false _ _ h))) .0 in
+    let e : Refused (UnknownWord k) ≡ Refused (NoRoom (length (actionsIn text))) =
+    one-outcome w (known-words text t (short (actionsIn text) out (leb-false _ _ h))) .0 in
     let z : _≡_ {A = ℕ} 0 1 = cc in
     absurd (omega arith))
     (either (leb (length (actionsIn text)) (length out))))

@@ -66,10 +66,12 @@ module _ (input : List ℕ) where
     line-accepted {c} s = subst (λ (k : ℕ). (c ≡ contextOf (numbersOf (take k input))) × (C.Passed ≡ checksOf (lineTests (take k input)))) e (read-context s)
 
     -- the words are a part of the input up to its length
-    pub words-rendered : {c : CraftContext} → c ≡ contextIn input → {room after : List ℕ} {r : Written} → RendersWords c (end + 1) (take (length input - (end + 1)) (drop (end + 1) input)) room r after
+    pub words-rendered : {c : CraftContext} → c ≡ contextIn input → {room after : List ℕ} {r : Written}
+        → RendersWords c (end + 1) (take (length input - (end + 1)) (drop (end + 1) input)) room r after
         → RendersWords (contextIn input) (lineEnd input + 1) (wordsIn input) room r after
     words-rendered {c} i {room} {after} {r} w =
-        let whole : take (length input - (end + 1)) (drop (end + 1) input) ≡ drop (end + 1) input = take-all (length input - (end + 1)) (drop (end + 1) input) (omega (arith, length-drop (end + 1) input)) in
+        let whole : take (length input - (end + 1)) (drop (end + 1) input) ≡ drop (end + 1) input =
+        take-all (length input - (end + 1)) (drop (end + 1) input) (omega (arith, length-drop (end + 1) input)) in
         let at-end = subst (λ (words : List ℕ). RendersWords c (end + 1) words room r after) whole w in
         let at-line = subst (λ (k : ℕ). RendersWords c (k + 1) (drop (k + 1) input) room r after) e at-end in
         subst (λ (x : CraftContext). RendersWords x (lineEnd input + 1) (wordsIn input) room r after) i at-line
@@ -80,13 +82,18 @@ module _ (tests : List Test) (text room : List ℕ) where
   abbrev Rendering : Written → List ℕ → Type 0
   Rendering r after = Writes written tests (Length (length text)) room (over room 0 text) r after
 
-  when-passed : (r : Written) (after : List ℕ) → Rendering r after → C.Passed ≡ checksOf tests → (r ≡ Length (length text)) × (after ≡ over room 0 text)
-  when-passed r after w p = (w .says .same ∙ sym (judged-passed Refused (Length (length text)) tests p), w .room ∙ sym (judged-passed (λ y. room) (over room 0 text) tests p))
+  when-passed : (r : Written) (after : List ℕ) → Rendering r after → C.Passed ≡ checksOf tests
+      → (r ≡ Length (length text)) × (after ≡ over room 0 text)
+  when-passed r after w p = (
+    w .says .same ∙ sym (judged-passed Refused (Length (length text)) tests p),
+    w .room ∙ sym (judged-passed (λ y. room) (over room 0 text) tests p),
+  )
 
   when-refused : (r : Written) (after : List ℕ) → Rendering r after → {x : Refusal} → C.Refused x ≡ checksOf tests → r ≡ Refused x
   when-refused r after w f = w .says .same ∙ sym (judged-refused Refused (Length (length text)) tests f)
 
-  rendered-length : (C.Passed ≡ checksOf tests → length text ≤ length room) → {k : ℕ} {after : List ℕ} → Rendering (Length k) after → (C.Passed ≡ checksOf tests) × Rendered text k after
+  rendered-length : (C.Passed ≡ checksOf tests → length text ≤ length room) → {k : ℕ} {after : List ℕ} → Rendering (Length k) after
+      → (C.Passed ≡ checksOf tests) × Rendered text k after
   rendered-length enough {k} {after} w = by (checksOf tests) refl
     where
       by : (c : Checked) → c ≡ checksOf tests → (C.Passed ≡ checksOf tests) × Rendered text k after
@@ -107,7 +114,8 @@ module _ (tests : List Test) (text room : List ℕ) where
 -- ---- of the whole input: its text in the room, or its refusal
 
 module _ (input room : List ℕ) {after : List ℕ} {r : Written} (w : Renders input room r after) where
-  pub input-accepted : transcriptMost ≤ length room → {k : ℕ} → r ≡ Length k → (C.Passed ≡ checksOf (inputTests input)) × Rendered (replayTextOf input) k after
+  pub input-accepted : transcriptMost ≤ length room → {k : ℕ} → r ≡ Length k
+      → (C.Passed ≡ checksOf (inputTests input)) × Rendered (replayTextOf input) k after
   input-accepted h e =
       rendered-length (inputTests input) (replayTextOf input) room (λ p. le-trans (text-fits input p) h) (subst (λ (x : Written). Renders input room x after) e w)
 
@@ -122,11 +130,14 @@ module _ (input room : List ℕ) {after : List ℕ} {r : Written} (w : Renders i
       by C.Passed e =
           let is = when-passed (inputTests input) (replayTextOf input) room r after w e in
           let fits : length (replayTextOf input) ≤ length room = le-trans (text-fits input e) h in
-          subst (λ (x : Written). ReplaysText input room x after) (sym (is .0)) (onward-room-by (inputTests input) (roomTest (length room) (length (replayTextOf input)) ∷ []) e refl (holds-room (le-leb _ _ fits) (answered-room refl refl (is .1))))
+          subst (λ (x : Written). ReplaysText input room x after) (sym (is .0))
+          (onward-room-by (inputTests input) (roomTest (length room) (length (replayTextOf input)) ∷ []) e refl
+          (holds-room (le-leb _ _ fits) (answered-room refl refl (is .1))))
       by (C.Refused x) e =
           let same = when-refused (inputTests input) (replayTextOf input) room r after w e in
           subst (λ (y : Written). ReplaysText input room y after) (sym same)
-          (stopped-room-by (inputTests input) (roomTest (length room) (length (replayTextOf input)) ∷ []) e refl (w .room ∙ sym (judged-refused (λ y. room) (over room 0 (replayTextOf input)) (inputTests input) e)))
+          (stopped-room-by (inputTests input) (roomTest (length room) (length (replayTextOf input)) ∷ []) e refl
+          (w .room ∙ sym (judged-refused (λ y. room) (over room 0 (replayTextOf input)) (inputTests input) e)))
 
 -- ---- what is printed, by what the tests answer
 

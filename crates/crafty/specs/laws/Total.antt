@@ -106,7 +106,8 @@ total-CraftState-check context state = says-refuses
 pub total-moves : (context : CraftContext) (state : CraftState) (mode : Mode) → Refuses allowed (1 ∷ 2 ∷ []) (HasMoves context state mode)
 total-moves context state mode = says-refuses
 
-pub total-step : (context : CraftContext) (state : CraftState) (mode : Mode) (n : ℕ) → Refuses stepped (1 ∷ 2 ∷ 3 ∷ 4 ∷ []) (Steps context state mode n)
+pub total-step : (context : CraftContext) (state : CraftState) (mode : Mode) (n : ℕ)
+    → Refuses stepped (1 ∷ 2 ∷ 3 ∷ 4 ∷ []) (Steps context state mode n)
 total-step context state mode n = says-refuses
 
 pub total-result : (context : CraftContext) (state : CraftState) (mode : Mode) → Refuses resulted (1 ∷ 2 ∷ []) (HasResult context state mode)
@@ -115,7 +116,8 @@ total-result context state mode r s = says-refuses r (s .says)
 pub total-score : (context : CraftContext) (state : CraftState) → Refuses scored (1 ∷ 2 ∷ []) (HasScore context state)
 total-score context state r s = says-refuses r (s .0)
 
-pub total-display : (context : CraftContext) (state : CraftState) (out : List ℕ) → RefusesWhole written (1 ∷ 2 ∷ 6 ∷ []) out (HasLine context state out)
+pub total-display : (context : CraftContext) (state : CraftState) (out : List ℕ)
+    → RefusesWhole written (1 ∷ 2 ∷ 6 ∷ []) out (HasLine context state out)
 total-display context state out = writes-refuses
 
 -- ---- replay, lists and the program
@@ -143,7 +145,8 @@ total-replay-output input out = writes-refuses
 pub total-plant : (nodes : List Node) → RefusesWhole planted (6 ∷ []) nodes (Plants nodes)
 total-plant nodes = changes-refuses
 
-pub total-insert : (nodes : List Node) (count parent action : ℕ) → RefusesWhole inserted (3 ∷ 7 ∷ 8 ∷ 6 ∷ []) nodes (Inserts nodes count parent action)
+pub total-insert : (nodes : List Node) (count parent action : ℕ)
+    → RefusesWhole inserted (3 ∷ 7 ∷ 8 ∷ 6 ∷ []) nodes (Inserts nodes count parent action)
 total-insert nodes count parent action = changes-refuses
 
 pub total-record-at : (nodes : List Node) (count k : ℕ) → Refuses recorded (7 ∷ 8 ∷ []) (Looks nodes count k)

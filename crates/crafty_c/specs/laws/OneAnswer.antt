@@ -37,7 +37,8 @@ one-crafty-tree-new nodes = changes
 pub one-crafty-tree-insert : (nodes : List Node) (count parent action : ℕ) → OneOutcome (TellsInserted nodes count parent action)
 one-crafty-tree-insert nodes count parent action = changes
 
-pub one-crafty-tree-backpropagate : (nodes : List Node) (count start target : ℕ) (score : Float) → OneOutcome (TellsPropagated nodes count start target score)
+pub one-crafty-tree-backpropagate : (nodes : List Node) (count start target : ℕ) (score : Float)
+    → OneOutcome (TellsPropagated nodes count start target score)
 one-crafty-tree-backpropagate nodes count start target score = changes
 
 pub one-crafty-tree-children : (nodes : List Node) (count node : ℕ) (out : List ℕ) → OneOutcome (TellsListed nodes count node out)

@@ -15,7 +15,8 @@ use Rattle.crafty_c.specs.Texts.{TellsReplay, TellsPrinted, TellsActions
 use Rattle.crafty_c.specs.Trees.{solutionAnswered, TellsPlanted, TellsInserted, TellsPropagated, TellsListed, TellsSolved}
 
 -- values are the fifteen numbers of the context
-pub total-crafty-replay : (values : List ℕ) (mode : Mode) (list out : List ℕ) → RefusesWhole answered (1 ∷ 3 ∷ 6 ∷ []) out (TellsNumbers values mode list out)
+pub total-crafty-replay : (values : List ℕ) (mode : Mode) (list out : List ℕ)
+    → RefusesWhole answered (1 ∷ 3 ∷ 6 ∷ []) out (TellsNumbers values mode list out)
 total-crafty-replay values mode list out = writes-refuses
 
 pub total-crafty-replay-text : (input out : List ℕ) → RefusesWhole answered (13 ∷ 12 ∷ 1 ∷ 5 ∷ 6 ∷ []) out (TellsReplay input out)
@@ -48,5 +49,6 @@ pub total-crafty-tree-children : (nodes : List Node) (count node : ℕ) (out : L
     → RefusesWhole answered (7 ∷ 8 ∷ 6 ∷ []) out (TellsListed nodes count node out)
 total-crafty-tree-children nodes count node out = writes-refuses
 
-pub total-crafty-tree-solution : (nodes : List Node) (count : ℕ) (out : List ℕ) → RefusesWhole solutionAnswered (7 ∷ 6 ∷ []) out (TellsSolved nodes count out)
+pub total-crafty-tree-solution : (nodes : List Node) (count : ℕ) (out : List ℕ)
+    → RefusesWhole solutionAnswered (7 ∷ 6 ∷ []) out (TellsSolved nodes count out)
 total-crafty-tree-solution nodes count out = writes-refuses

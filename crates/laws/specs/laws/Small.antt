@@ -65,7 +65,8 @@ either-sign : (f : Format) (s : Bool) (q k b : ℕ) → Small (units f false q k
 unfolding units odd
 either-sign f s q k b = go (ltb (q * 2 ^ k) (2 ^ (low f + suc (emax f)))) q
   where
-    go : (t : Bool) (q : ℕ) → Small (cond t (odd (suc (prec f)) false q k (low f)) (inf false)) b → Small (cond t (odd (suc (prec f)) s q k (low f)) (inf s)) b
+    go : (t : Bool) (q : ℕ) → Small (cond t (odd (suc (prec f)) false q k (low f)) (inf false)) b
+        → Small (cond t (odd (suc (prec f)) s q k (low f)) (inf s)) b
     go true zero p = p
     go true (suc q) p = p
     go false q p = p
@@ -93,7 +94,8 @@ pub of-nat-value : (f : Format) (n : ℕ) → n ≤ 2 ^ prec f → HasValue (ofI
 unfolding ofInt
 of-nat-value f n h = round-whole f false n h
 
-sum-small : (f : Format) (s : Bool) (a : ℕ) (t : Bool) (b c i j : ℕ) → 0 < c → i + j ≤ 2 ^ prec f → a ≤ i * c → b ≤ j * c → Small (sum f s a t b c) (i + j)
+sum-small : (f : Format) (s : Bool) (a : ℕ) (t : Bool) (b c i j : ℕ) → 0 < c → i + j ≤ 2 ^ prec f → a ≤ i * c → b ≤ j * c
+    → Small (sum f s a t b c) (i + j)
 unfolding sum
 sum-small f s a t b c i j C B p q = go (Bool·beq s t) (ltb a b)
   where

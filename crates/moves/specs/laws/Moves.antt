@@ -51,7 +51,8 @@ module _ (c : CraftContext) (s : CraftState) (mode : Mode) where
   unfolding movesOf
   has-moves n h = by (ended c s)
     where
-      by : (t : Bool) → has (cond t 0 (keepOf (allowsOf c s mode) (c .«action_pool» .0))) n ≡ not t && (has (c .«action_pool» .0) n && allowsOf c s mode n)
+      by : (t : Bool)
+          → has (cond t 0 (keepOf (allowsOf c s mode) (c .«action_pool» .0))) n ≡ not t && (has (c .«action_pool» .0) n && allowsOf c s mode n)
       by true = has-high 0 n (pow-pos n)
       by false = has-keep actions (c .«action_pool» .0) (allowsOf c s mode) n h
 
@@ -93,7 +94,8 @@ affords-payable s n row bounds = by (row .«cp_cost») refl
     by (Of cost) e t = le-trans (price-at-most bounds e (s .«previous_combo_action»)) (leb-true cost (s .cp) t)
     by Nothing e t = zero-le
 
-improve-where : (c : CraftContext) (s : CraftState) (quality : Amount) → mayImprove c s quality ≡ true → Where quality (s .quality < c .«quality_target»)
+improve-where : (c : CraftContext) (s : CraftState) (quality : Amount) → mayImprove c s quality ≡ true
+    → Where quality (s .quality < c .«quality_target»)
 improve-where c s (Of efficiency) t = ltb-true (s .quality) (c .«quality_target») t
 improve-where c s Nothing t = tt
 

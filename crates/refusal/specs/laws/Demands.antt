@@ -86,7 +86,8 @@ module _ {A : Type 0} {kind : Kind A} {tests : List Test} {answer r : A} (s : Sa
   number-among = subst (λ (report : Report). Among (numbersIn tests) (report .0)) (sym (s .number)) (among tests)
 
   -- a refusal leaves what was lent, whatever it is
-  pub refused-whole : {B : Type 0} {lent after : B} (changed : B) → after ≡ judged (λ x. lent) changed tests → (kind .told r .0 ≡ 0 → ⊥) → after ≡ lent
+  pub refused-whole : {B : Type 0} {lent after : B} (changed : B) → after ≡ judged (λ x. lent) changed tests → (kind .told r .0 ≡ 0 → ⊥)
+      → after ≡ lent
   refused-whole {B} {lent} {after} changed e n = by (checksOf tests) refl
     where
       by : (c : Checked) → c ≡ checksOf tests → after ≡ lent

@@ -24,7 +24,8 @@ module _ {A : Type 0} (refused : Refusal → A) (answer : A) (rest : List Test) 
   stops [] e = absurd (refused-passed e)
   stops (t ∷ more) {x} e = by (t .passed) (λ f. stops more f) e
     where
-      by : (b : Bool) → (Refused x ≡ judged Refused Passed more → refused x ≡ judged refused answer (more ++ rest)) → Refused x ≡ cond b (judged Refused Passed more) (Refused (t .otherwise))
+      by : (b : Bool) → (Refused x ≡ judged Refused Passed more → refused x ≡ judged refused answer (more ++ rest))
+          → Refused x ≡ cond b (judged Refused Passed more) (Refused (t .otherwise))
           → refused x ≡ cond b (judged refused answer (more ++ rest)) (refused (t .otherwise))
       by true later e = later e
       by false later e = let same : x ≡ t .otherwise = cc in ap refused same
@@ -35,7 +36,8 @@ module _ {A : Type 0} (refused : Refusal → A) (answer : A) (rest : List Test) 
   passes [] e = refl
   passes (t ∷ more) e = by (t .passed) (passes more) e
     where
-      by : (b : Bool) → (Passed ≡ judged Refused Passed more → judged refused answer rest ≡ judged refused answer (more ++ rest)) → Passed ≡ cond b (judged Refused Passed more) (Refused (t .otherwise))
+      by : (b : Bool) → (Passed ≡ judged Refused Passed more → judged refused answer rest ≡ judged refused answer (more ++ rest))
+          → Passed ≡ cond b (judged Refused Passed more) (Refused (t .otherwise))
           → judged refused answer rest ≡ cond b (judged refused answer (more ++ rest)) (refused (t .otherwise))
       by true later e = later e
       by false later e = absurd (refused-passed (sym e))
@@ -82,7 +84,8 @@ module _ (t : Test) (more : List Test) {checked : Checked} (e : checked ≡ chec
   checks-on p f = checks-on-by (t ∷ []) more (alone t e) p f
 
 -- what tests that passed have shown
-pub shown : (t : Test) (more : List Test) {checked : Checked} → checked ≡ checksOf (t ∷ more) → checked ≡ Passed → (t .passed ≡ true) × (checked ≡ checksOf more)
+pub shown : (t : Test) (more : List Test) {checked : Checked} → checked ≡ checksOf (t ∷ more) → checked ≡ Passed
+    → (t .passed ≡ true) × (checked ≡ checksOf more)
 unfolding judged
 shown t more {checked} e p = by (t .passed) e
   where
@@ -90,7 +93,8 @@ shown t more {checked} e p = by (t .passed) e
     by true e = (refl, e)
     by false e = absurd (refused-passed (sym e ∙ p))
 
-pub shown-by : (tests rest : List Test) {checked : Checked} → checked ≡ checksOf (tests ++ rest) → checked ≡ Passed → (checked ≡ checksOf tests) × (checked ≡ checksOf rest)
+pub shown-by : (tests rest : List Test) {checked : Checked} → checked ≡ checksOf (tests ++ rest) → checked ≡ Passed
+    → (checked ≡ checksOf tests) × (checked ≡ checksOf rest)
 unfolding judged
 shown-by [] rest e p = (p, e)
 shown-by (t ∷ more) rest e p =
@@ -147,7 +151,8 @@ module _ {A : Type 0} {kind : Kind A} {answer : A} {out written after : List ℕ
     pub stopped-room-by : {x : Refusal} → checked ≡ Refused x → after ≡ out → Writes kind (tests ++ rest) answer out written (kind .refused x) after
     stopped-room-by s u = record { says = stopped-by tests rest e s; room = u ∙ stops (λ y. out) written rest tests (sym s ∙ e) }
 
-    pub onward-room-by : {r : A} → checked ≡ Passed → Writes kind rest answer out written r after → Writes kind (tests ++ rest) answer out written r after
+    pub onward-room-by : {r : A} → checked ≡ Passed → Writes kind rest answer out written r after
+        → Writes kind (tests ++ rest) answer out written r after
     onward-room-by p w = record { says = onward-by tests rest e p (w .says); room = w .room ∙ passes (λ y. out) written rest tests (sym p ∙ e) }
 
   module _ {t : Test} {rest : List Test} {checked : Checked} (e : checked ≡ checkedOf t) where
@@ -173,7 +178,8 @@ module _ {A : Type 0} {kind : Kind A} {answer : A} {t : Test} {rest : List Test}
     pub fails-room : t .passed ≡ false → Writes kind (t ∷ rest) answer out written (kind .refused (t .otherwise)) out
     fails-room e = stopped-room {checked = Refused (t .otherwise)} (rw e refl) refl refl
 
-    pub holds-room : {r : A} {after : List ℕ} → t .passed ≡ true → Writes kind rest answer out written r after → Writes kind (t ∷ rest) answer out written r after
+    pub holds-room : {r : A} {after : List ℕ} → t .passed ≡ true → Writes kind rest answer out written r after
+        → Writes kind (t ∷ rest) answer out written r after
     holds-room e w = onward-room {checked = Passed} (rw e refl) refl w
 
 -- ---- THE law of one answer: what two runs of an entry answer, and what they leave in a lent room, is the same
@@ -182,5 +188,6 @@ module _ {A : Type 0} {kind : Kind A} {tests : List Test} {answer r s : A} where
   pub one-answer : Says kind tests answer r → Says kind tests answer s → r ≡ s
   one-answer a b = a .same ∙ sym (b .same)
 
-  pub one-outcome : {out written after later : List ℕ} → Writes kind tests answer out written r after → Writes kind tests answer out written s later → (r ≡ s) × (after ≡ later)
+  pub one-outcome : {out written after later : List ℕ} → Writes kind tests answer out written r after
+      → Writes kind tests answer out written s later → (r ≡ s) × (after ≡ later)
   one-outcome a b = (one-answer (a .says) (b .says), a .room ∙ sym (b .room))

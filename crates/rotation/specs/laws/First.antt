@@ -22,14 +22,17 @@ use Rattle.rotation.specs.First.{wordAt, FirstUnknown}
 -- ---- a word that has ended: it is known, and the rest decides, or it is the first unknown one
 
 module _ (at : ℕ) (word : List ℕ) (more : List Word) where
-  ended-known : allFound (ended at word []) ≡ true → (allFound (ended at word more) ≡ allFound more) × (firstUnknown (ended at word more) ≡ firstUnknown more)
+  ended-known : allFound (ended at word []) ≡ true
+      → (allFound (ended at word more) ≡ allFound more) × (firstUnknown (ended at word more) ≡ firstUnknown more)
   ended-known = by word
     where
-      on : (f : Found) → isFound f && true ≡ true → (isFound f && allFound more ≡ allFound more) × (cond (isFound f) (firstUnknown more) at ≡ firstUnknown more)
+      on : (f : Found) → isFound f && true ≡ true
+          → (isFound f && allFound more ≡ allFound more) × (cond (isFound f) (firstUnknown more) at ≡ firstUnknown more)
       on (Action n) t = (refl, refl)
       on Nothing t = absurd (true-false (sym t))
 
-      by : (w : List ℕ) → allFound (ended at w []) ≡ true → (allFound (ended at w more) ≡ allFound more) × (firstUnknown (ended at w more) ≡ firstUnknown more)
+      by : (w : List ℕ) → allFound (ended at w []) ≡ true
+          → (allFound (ended at w more) ≡ allFound more) × (firstUnknown (ended at w more) ≡ firstUnknown more)
       by [] t = (refl, refl)
       by (b ∷ w) t = on (foundOf (b ∷ w)) t
 
@@ -154,7 +157,8 @@ starts-unknown text at h u =
     (ap allFound w ∙ rw u, ap firstUnknown w ∙ rw u)
 
 -- words before others: where each of them is known, the others decide
-after-known : (words more : List Word) → allFound words ≡ true → (allFound (words ++ more) ≡ allFound more) × (firstUnknown (words ++ more) ≡ firstUnknown more)
+after-known : (words more : List Word) → allFound words ≡ true
+    → (allFound (words ++ more) ≡ allFound more) × (firstUnknown (words ++ more) ≡ firstUnknown more)
 after-known [] more t = (refl, refl)
 after-known (w ∷ words) more t =
     let b = both (isFound (w .found)) (allFound words) t in

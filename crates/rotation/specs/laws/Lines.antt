@@ -27,7 +27,8 @@ unfolding textOf
 line-short n h = omega (arith, line-length n, name-short n h)
 
 -- the name, and the newline after it
-pub line-put : (n : ℕ) {at r s : ℕ} {out m after : List ℕ} → Put out at (textOf Name n) r m → Put m r (newline ∷ []) s after → Put out at (lineOf n) s after
+pub line-put : (n : ℕ) {at r s : ℕ} {out m after : List ℕ} → Put out at (textOf Name n) r m → Put m r (newline ∷ []) s after
+    → Put out at (lineOf n) s after
 unfolding lineOf textOf
 line-put n p q = then p q
 

@@ -32,7 +32,8 @@ unfolding actionOf nameOf gap
 plain n h = below-at (λ n. letters (nameOf n)) actions n h tt
 
 -- letters go on with a word
-letters-passed : (word text : List ℕ) (at : ℕ) (before : List ℕ) → T (letters word) → wordsFrom at before (word ++ text) ≡ wordsFrom at (before ++ word) text
+letters-passed : (word text : List ℕ) (at : ℕ) (before : List ℕ) → T (letters word)
+    → wordsFrom at before (word ++ text) ≡ wordsFrom at (before ++ word) text
 letters-passed [] text at before p = rw append-nil
 letters-passed (b ∷ word) text at before p =
     ⊎-elim

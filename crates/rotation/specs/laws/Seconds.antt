@@ -9,7 +9,8 @@ use Rattle.action.specs.Table.{attributesOf}
 use Rattle.action.specs.Wait.{waitOf}
 use Rattle.rotation.specs.Seconds.{secondsOf}
 
-pub seconds-on : (list : List ℕ) (i : ℕ) → i < length list → secondsOf (drop i list) ≡ waitOf (attributesOf (getD list i 0)) + secondsOf (drop (i + 1) list)
+pub seconds-on : (list : List ℕ) (i : ℕ) → i < length list
+    → secondsOf (drop i list) ≡ waitOf (attributesOf (getD list i 0)) + secondsOf (drop (i + 1) list)
 unfolding secondsOf
 seconds-on list i h = rw (drop-at list i h)
 

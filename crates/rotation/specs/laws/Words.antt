@@ -36,7 +36,8 @@ pub words-gap : (at : ℕ) (word : List ℕ) (b : ℕ) (text : List ℕ) → gap
 unfolding wordsFrom
 words-gap at word b text e = rw e
 
-pub words-letter : (at : ℕ) (word : List ℕ) (b : ℕ) (text : List ℕ) → gap b ≡ false → wordsFrom at word (b ∷ text) ≡ wordsFrom at (word ++ (b ∷ [])) text
+pub words-letter : (at : ℕ) (word : List ℕ) (b : ℕ) (text : List ℕ) → gap b ≡ false
+    → wordsFrom at word (b ∷ text) ≡ wordsFrom at (word ++ (b ∷ [])) text
 unfolding wordsFrom
 words-letter at word b text e = rw e
 

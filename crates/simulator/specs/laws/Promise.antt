@@ -70,7 +70,8 @@ module _ (c : CraftContext) (mode : Mode) where
   along-inside s [] g h l = g
   along-inside s (n ∷ rest) g h l = along-inside (executeOf c s n) rest (legal-keeps c s mode n g (h .0) (l .0)) (h .1) (l .1)
 
-  along-points : (s : CraftState) (list : List ℕ) → CraftIn c s → AllKnown list → EachLegal c mode s list → after c s list .cp + chargesOf c s list ≡ s .cp
+  along-points : (s : CraftState) (list : List ℕ) → CraftIn c s → AllKnown list → EachLegal c mode s list
+      → after c s list .cp + chargesOf c s list ≡ s .cp
   unfolding EachLegal after chargesOf
   along-points s [] g h l = add-zero (s .cp)
   along-points s (n ∷ rest) g h l =
@@ -169,7 +170,8 @@ module _ (c : CraftContext) (mode : Mode) where
           let here = stays (goesOn (resultOf c s mode)) in
           record { executed = rw t (here .0); state = rw t (here .1); part = zero-le; legal = tt; longest = none }
         where
-          stays : (g : Bool) → (cond g (slipOf c mode s k) (stopOf c mode s k) .executed ≡ k + 0) × (cond g (slipOf c mode s k) (stopOf c mode s k) .state ≡ s)
+          stays : (g : Bool)
+              → (cond g (slipOf c mode s k) (stopOf c mode s k) .executed ≡ k + 0) × (cond g (slipOf c mode s k) (stopOf c mode s k) .state ≡ s)
           stays true = (sym (add-zero k), refl)
           stays false = (sym (add-zero k), refl)
 

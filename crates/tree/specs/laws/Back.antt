@@ -38,7 +38,8 @@ falling-below (k ∷ path) m j f e = go (eqb j k) refl e (λ q. falling-below pa
     go true q e rest = omega (arith, eqb-true j k q, f .0)
     go false q e rest = omega (arith, rest e, f .0)
 
-past : (nodes : List Node) (path : List ℕ) (score : Float) (m j : ℕ) → Falling m path → m ≤ j → nodeAt (touchedAll nodes path score) j ≡ nodeAt nodes j
+past : (nodes : List Node) (path : List ℕ) (score : Float) (m j : ℕ) → Falling m path → m ≤ j
+    → nodeAt (touchedAll nodes path score) j ≡ nodeAt nodes j
 unfolding touchedAll
 past nodes [] score m j f h = refl
 past nodes (k ∷ path) score m j f h =

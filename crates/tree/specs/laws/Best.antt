@@ -138,7 +138,8 @@ module _ (nodes : List Node) (parent : ℕ) where
       go false e (inr l) rest = rest l
 
   -- the last of equals: every child after it has a smaller max_score
-  pub best-last : (m k : ℕ) → k < m → Child k → bestTo m nodes parent .at < k → le (bestTo m nodes parent .«max_score») (nodeAt nodes k .«max_score») ≡ false
+  pub best-last : (m k : ℕ) → k < m → Child k → bestTo m nodes parent .at < k
+      → le (bestTo m nodes parent .«max_score») (nodeAt nodes k .«max_score») ≡ false
   unfolding bestTo pickOf
   best-last zero k h is l = absurd (omega arith)
   best-last (suc m) k h is l = go (takes m) refl (last-or-below k m h) (λ b. best-last m k b is) l
@@ -183,7 +184,8 @@ one-way a b j k h i = go (ltb a b) refl (ltb b a) refl h i
     level : (x y m n : ℕ) → (eqb x y && true) && leb m n ≡ true → (x ≡ y) × (m ≤ n)
     level x y m n e = let parts = both (eqb x y && true) _ e in (eqb-true x y (both (eqb x y) _ (parts .0) .0), leb-true m n (parts .1))
 
-    go : (l : Bool) → ltb a b ≡ l → (g : Bool) → ltb b a ≡ g → l || ((eqb a b && true) && leb j k) ≡ true → g || ((eqb b a && true) && leb k j) ≡ true → j ≡ k
+    go : (l : Bool) → ltb a b ≡ l → (g : Bool) → ltb b a ≡ g → l || ((eqb a b && true) && leb j k) ≡ true
+        → g || ((eqb b a && true) && leb k j) ≡ true → j ≡ k
     go true p true q h i = absurd (omega (arith, ltb-true a b p, ltb-true b a q))
     go true p false q h i = absurd (omega (arith, ltb-true a b p, level b a k j i .0))
     go false p true q h i = absurd (omega (arith, ltb-true b a q, level a b j k h .0))
@@ -240,7 +242,8 @@ module _ (nodes : List Node) (all : List ℕ) where
   in-found [] some = absurd (omega arith)
   in-found (k ∷ rest) some = go (allYield nodes k all) refl (in-found rest) some
     where
-      go : (t : Bool) → allYield nodes k all ≡ t → (0 < bestIn nodes all rest → (elem rest (bestIn nodes all rest) ≡ true) × First (bestIn nodes all rest))
+      go : (t : Bool) → allYield nodes k all ≡ t
+          → (0 < bestIn nodes all rest → (elem rest (bestIn nodes all rest) ≡ true) × First (bestIn nodes all rest))
           → 0 < cond t k (bestIn nodes all rest)
           → (eqb (cond t k (bestIn nodes all rest)) k || elem rest (cond t k (bestIn nodes all rest)) ≡ true) × First (cond t k (bestIn nodes all rest))
       go true q later some = (rw (eq-eqb k k refl), q)
@@ -292,7 +295,8 @@ module _ (nodes : List Node) (count : ℕ) (tree : SoundTree nodes count) (paren
   in-order k e = ordinary _ (maximum k (listed nodes count parent k e .0))
 
   -- no two are such that all children give way to them
-  pub best-only : (j k : ℕ) → elem children j ≡ true → elem children k ≡ true → allYield nodes j children ≡ true → allYield nodes k children ≡ true → j ≡ k
+  pub best-only : (j k : ℕ) → elem children j ≡ true → elem children k ≡ true → allYield nodes j children ≡ true
+      → allYield nodes k children ≡ true → j ≡ k
   best-only j k is too f g =
       yields-both (nodeAt nodes j .«max_score») (nodeAt nodes k .«max_score») j k (in-order j is) (in-order k too)
       (yield-each nodes k children g j is) (yield-each nodes j children f k too)

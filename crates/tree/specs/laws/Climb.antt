@@ -93,7 +93,8 @@ abbrev pub Falling : ℕ → List ℕ → Type 0
 Falling m [] = Unit {0}
 Falling m (k ∷ path) = (k < m) × Falling k path
 
-pub path-falling : (nodes : List Node) (count target : ℕ) → Falls nodes count → (steps k m : ℕ) → k < m → k < count → Falling m (pathIn steps nodes k target)
+pub path-falling : (nodes : List Node) (count target : ℕ) → Falls nodes count → (steps k m : ℕ) → k < m → k < count
+    → Falling m (pathIn steps nodes k target)
 unfolding pathIn
 path-falling nodes count target falls zero k m l h = (l, tt)
 path-falling nodes count target falls (suc steps) k m l h =

@@ -26,12 +26,14 @@ use Rattle.tree.specs.Grow.{isPlanted, isInserted, PlantAnswer, InsertAn
 -- ---- the records, from the answer
 
 -- what is worked out of an answer is worked out of each of its ways
-judged-map : {A B : Type 0} (f : A → B) (refused : Refusal → A) (answer : A) (tests : List Test) → f (judged refused answer tests) ≡ judged (λ x. f (refused x)) (f answer) tests
+judged-map : {A B : Type 0} (f : A → B) (refused : Refusal → A) (answer : A) (tests : List Test)
+    → f (judged refused answer tests) ≡ judged (λ x. f (refused x)) (f answer) tests
 unfolding judged
 judged-map f refused answer [] = refl
 judged-map f refused answer (t ∷ rest) = by (t .passed) (judged-map f refused answer rest)
   where
-    by : (b : Bool) → f (judged refused answer rest) ≡ judged (λ x. f (refused x)) (f answer) rest → f (cond b (judged refused answer rest) (refused (t .otherwise))) ≡ cond b (judged (λ x. f (refused x)) (f answer) rest) (f (refused (t .otherwise)))
+    by : (b : Bool) → f (judged refused answer rest) ≡ judged (λ x. f (refused x)) (f answer) rest
+        → f (cond b (judged refused answer rest) (refused (t .otherwise))) ≡ cond b (judged (λ x. f (refused x)) (f answer) rest) (f (refused (t .otherwise)))
     by true later = later
     by false later = refl
 
@@ -40,7 +42,8 @@ unfolding judged
 let-through [] e = refl
 let-through (t ∷ rest) e = by (t .passed) (let-through rest) e
   where
-    by : (b : Bool) → (judged (λ x. false) true rest ≡ true → Passed ≡ checksOf rest) → cond b (judged (λ x. false) true rest) false ≡ true → Passed ≡ cond b (checksOf rest) (Refused (t .otherwise))
+    by : (b : Bool) → (judged (λ x. false) true rest ≡ true → Passed ≡ checksOf rest) → cond b (judged (λ x. false) true rest) false ≡ true
+        → Passed ≡ cond b (checksOf rest) (Refused (t .otherwise))
     by true later e = later e
     by false later e = absurd (true-false (sym e))
 
@@ -48,7 +51,11 @@ module _ (nodes : List Node) {r : Planted} (s : PlantAnswer (length nodes) r) wh
   pub plants : {after : List Node} (b : Bool) → isPlanted r ≡ b → after ≡ cond b (plantedOf nodes) nodes → Plants nodes r after
   plants b e w =
       let f : Planted → List Node = λ x. cond (isPlanted x) (plantedOf nodes) nodes in
-      record { says = s; records = w ∙ ap (λ (x : Bool). cond x (plantedOf nodes) nodes) (sym e) ∙ ap f (s .same) ∙ judged-map f _ _ (newTests nodes) }
+      record {
+        says = s;
+        records = w ∙ ap (λ (x : Bool). cond x (plantedOf nodes) nodes) (sym e)
+            ∙ ap f (s .same) ∙ judged-map f _ _ (newTests nodes);
+      }
 
   pub planted-passed : isPlanted r ≡ true → Passed ≡ checksOf (newTests nodes)
   planted-passed e = let-through (newTests nodes) (sym (judged-map isPlanted _ _ (newTests nodes)) ∙ ap isPlanted (sym (s .same)) ∙ e)
@@ -57,13 +64,19 @@ module _ (nodes : List Node) {r : Planted} (s : PlantAnswer (length nodes) r) wh
   planted-room e = leb-true 1 (length nodes) (shown (roomTest (length nodes) 1) [] (planted-passed e) refl .0)
 
 module _ (nodes : List Node) (count parent action : ℕ) {r : Inserted} (s : InsertAnswer (isSound nodes count) (length nodes) count parent action r) where
-  pub inserts : {after : List Node} (b : Bool) → isInserted r ≡ b → after ≡ cond b (insertedOf nodes count parent action) nodes → Inserts nodes count parent action r after
+  pub inserts : {after : List Node} (b : Bool) → isInserted r ≡ b → after ≡ cond b (insertedOf nodes count parent action) nodes
+      → Inserts nodes count parent action r after
   inserts b e w =
       let f : Inserted → List Node = λ x. cond (isInserted x) (insertedOf nodes count parent action) nodes in
-      record { says = s; records = w ∙ ap (λ (x : Bool). cond x (insertedOf nodes count parent action) nodes) (sym e) ∙ ap f (s .same) ∙ judged-map f _ _ (insertTests nodes count parent action) }
+      record {
+        says = s;
+        records = w ∙ ap (λ (x : Bool). cond x (insertedOf nodes count parent action) nodes) (sym e)
+            ∙ ap f (s .same) ∙ judged-map f _ _ (insertTests nodes count parent action);
+      }
 
   pub inserted-passed : isInserted r ≡ true → Passed ≡ checksOf (insertTests nodes count parent action)
-  inserted-passed e = let-through (insertTests nodes count parent action) (sym (judged-map isInserted _ _ (insertTests nodes count parent action)) ∙ ap isInserted (sym (s .same)) ∙ e)
+  inserted-passed e = let-through (insertTests nodes count parent action)
+      (sym (judged-map isInserted _ _ (insertTests nodes count parent action)) ∙ ap isInserted (sym (s .same)) ∙ e)
 
   pub inserted-room : isInserted r ≡ true → count < length nodes
   inserted-room e =
@@ -80,14 +93,17 @@ planted-kept nodes p e =
     let passed = planted-passed nodes (p .says) e in
     ap (λ (l : List Node). isSound l newCount) (p .records ∙ sym (judged-passed _ _ (newTests nodes) passed)) ∙ new-kept nodes passed
 
-pub inserted-kept : (nodes : List Node) (count parent action : ℕ) {r : Inserted} {after : List Node} → Inserts nodes count parent action r after → isInserted r ≡ true → isSound after (count + 1) ≡ true
+pub inserted-kept : (nodes : List Node) (count parent action : ℕ) {r : Inserted} {after : List Node}
+    → Inserts nodes count parent action r after → isInserted r ≡ true → isSound after (count + 1) ≡ true
 inserted-kept nodes count parent action i e =
     let passed = inserted-passed nodes count parent action (i .says) e in
-    ap (λ (l : List Node). isSound l (count + 1)) (i .records ∙ sym (judged-passed _ _ (insertTests nodes count parent action) passed)) ∙ insert-kept nodes count parent action passed
+    ap (λ (l : List Node). isSound l (count + 1)) (i .records ∙ sym (judged-passed _ _ (insertTests nodes count parent action) passed))
+    ∙ insert-kept nodes count parent action passed
 
 -- ---- two runs of an entry give one answer, and leave the same records
 
-pub one-change : {A : Type 0} {kind : Kind A} {tests : List Test} {answer r s : A} {nodes changed after later : List Node} → Changes kind tests answer nodes changed r after → Changes kind tests answer nodes changed s later → (r ≡ s) × (after ≡ later)
+pub one-change : {A : Type 0} {kind : Kind A} {tests : List Test} {answer r s : A} {nodes changed after later : List Node}
+    → Changes kind tests answer nodes changed r after → Changes kind tests answer nodes changed s later → (r ≡ s) × (after ≡ later)
 one-change a b = (one-answer (a .says) (b .says), a .records ∙ sym (b .records))
 
 -- ---- total and refusing: each answer is told by 0 or the number of one of the tests, and a refusal leaves every record

@@ -67,7 +67,8 @@ module _ (nodes : List Node) (count start target : ℕ) (score : Float) (e : Pas
   back-reaches = path-reaches nodes start start target (accepted .above)
 
   -- on the path: one visit more, the score and the greater maximum, and that is another record than before
-  pub back-touches : (k : ℕ) → elem (pathOf nodes start target) k ≡ true → nodeAt (backOf nodes start target score) k ≡ touchedOf (nodeAt nodes k) score
+  pub back-touches : (k : ℕ) → elem (pathOf nodes start target) k ≡ true
+      → nodeAt (backOf nodes start target score) k ≡ touchedOf (nodeAt nodes k) score
   back-touches = let a = accepted in back-on nodes count start target score (a .tree) (a .inside)
 
   pub back-changes : (k : ℕ) → elem (pathOf nodes start target) k ≡ true → nodeAt (backOf nodes start target score) k ≡ nodeAt nodes k → ⊥

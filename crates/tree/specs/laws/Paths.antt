@@ -47,7 +47,8 @@ module _ (nodes : List Node) (count : ℕ) (out : List ℕ) where
     pub solution-short : leb needed (length out) ≡ false → Solves nodes count out (S.Refused (NoRoom needed)) out
     solution-short e = rw is (holds-room sound (fails-room (rw is at e)))
 
-    pub solution-solved : leb needed (length out) ≡ true → {last : ℕ} {after : List ℕ} → last ≡ endOf nodes count → after ≡ over out 0 (solutionOf nodes count)
+    pub solution-solved : leb needed (length out) ≡ true → {last : ℕ} {after : List ℕ} → last ≡ endOf nodes count
+        → after ≡ over out 0 (solutionOf nodes count)
         → Solves nodes count out (S.Solution needed last) after
     solution-solved e same wrote = rw (is, same) (holds-room sound (holds-room (rw is at e) (answered-room refl refl wrote)))
 
