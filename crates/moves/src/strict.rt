@@ -2,7 +2,7 @@
 ghost use mathlib.Core.Path.{_≡_};
 ghost use Rattle.action.specs.Bounds.{RowBounds};
 ghost use Rattle.craft_state.specs.Inside.{CraftIn};
-ghost use Rattle.step.specs.Asked.{Progressing};
+ghost use Rattle.step.specs.inner.Asked.{Progressing};
 ghost use Rattle.moves.specs.Rules.{eyeAlone, outsideMemory, outsideVeneration, afterObserve, mayProgress};
 ghost use Rattle.moves.specs.Moves.{strictlyOf};
 use super::own::on_observe;

@@ -7,7 +7,7 @@ ghost use Rattle.action.specs.Known.{knownFront};
 ghost use Rattle.action.specs.Table.{attributesOf};
 ghost use Rattle.craft_context.specs.Limits.{ContextIn};
 ghost use Rattle.craft_state.specs.Inside.{CraftIn};
-ghost use Rattle.step.specs.Asked.{Playable};
+ghost use Rattle.step.specs.inner.Asked.{Playable};
 ghost use Rattle.step.specs.Step.{executeOf};
 ghost use Rattle.score.specs.Result.{ScoreIsNumber};
 ghost use Rattle.simulator.specs.Replay.{stopOf, slipOf, replayOf};

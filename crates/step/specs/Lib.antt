@@ -1,5 +1,5 @@
 pub mod Durability
 pub mod Parts
 pub mod Step
-pub mod Asked
+pub mod inner
 pub mod laws

@@ -2,7 +2,7 @@
 ghost use mathlib.Core.Path.{_≡_};
 ghost use Rattle.step.specs.Parts.{comboAfter};
 ghost use Rattle.step.specs.Step.{paidOf, combinedOf};
-ghost use Rattle.step.specs.Asked.{Payable};
+ghost use Rattle.step.specs.inner.Asked.{Payable};
 use super::quality::on_basic_touch;
 use action::Amount;
 use action::Combo;

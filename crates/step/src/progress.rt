@@ -3,7 +3,7 @@ ghost use mathlib.Core.Path.{_≡_};
 ghost use Prim.Native.Nat.{_<_};
 ghost use Rattle.craft_state.specs.Limits.{stepMost};
 ghost use Rattle.step.specs.Step.{begunOf, progressedOf};
-ghost use Rattle.step.specs.Asked.{Progressing};
+ghost use Rattle.step.specs.inner.Asked.{Progressing};
 use action::Amount;
 use craft_context::CraftContext;
 use craft_state::CraftState;

@@ -5,7 +5,7 @@ ghost use Rattle.action.specs.Amount.{AtMost};
 ghost use Rattle.action.specs.Limits.{qualityMost, quietMost, gainMost};
 ghost use Rattle.step.specs.Parts.{onBasicTouch, doublesQuiet, quietTo, qualityGain};
 ghost use Rattle.step.specs.Step.{improvedOf};
-ghost use Rattle.step.specs.Asked.{Touching};
+ghost use Rattle.step.specs.inner.Asked.{Touching};
 use action::Amount;
 use action::Combo;
 use craft_context::CraftContext;

@@ -2,7 +2,7 @@
 ghost use mathlib.Core.Path.{_≡_};
 ghost use Rattle.action.specs.Table.{attributesOf};
 ghost use Rattle.step.specs.Step.{executeOf};
-ghost use Rattle.step.specs.Asked.{Playable};
+ghost use Rattle.step.specs.inner.Asked.{Playable};
 use super::combos::combined;
 use super::combos::paid;
 use super::durability::refreshed;

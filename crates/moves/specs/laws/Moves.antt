@@ -27,7 +27,7 @@ use Rattle.craft_state.specs.declared.state.CraftState.{CraftState}
 use Rattle.craft_state.specs.Limits.{stepLeast, stateInside}
 use Rattle.craft_state.specs.Inside.{CraftIn}
 use Rattle.craft_state.specs.laws.Inside.{in-state}
-use Rattle.step.specs.Asked.{Where, Payable, Playable}
+use Rattle.step.specs.inner.Asked.{Where, Payable, Playable}
 use Rattle.step.specs.Step.{executeOf}
 use Rattle.step.specs.laws.Step.{execute-in, execute-pays}
 use Rattle.moves.specs.Modes.{plain, strict}

@@ -31,7 +31,7 @@ use Rattle.step.specs.Durability.{mendedOf, mastersMends}
 use Rattle.step.specs.laws.Durability.{mended-in, hurt-in}
 use Rattle.step.specs.Parts.{progressAfter, qualityAfter, quietAfter, quietLevel, doublesQuiet, usedUp, isActive, durabilityAfter, cpAfter}
 use Rattle.step.specs.Parts.{onBasicTouch, comboAfter, tickedOf, effectOf, mendAfter}
-use Rattle.step.specs.Asked.{Where, Payable, Progressing, Touching}
+use Rattle.step.specs.inner.Asked.{Where, Payable, Progressing, Touching}
 
 -- ---- progress and quality
 

@@ -22,7 +22,7 @@ use Rattle.step.specs.Parts.{stepAfter, comboAfter, tickedOf, quickAfter
 use Rattle.step.specs.laws.Parts.{progress-at-most, progress-rises, quality-at-most, quality-rises, used-up-at-most, quiet-at-most}
 use Rattle.step.specs.laws.Parts.{worn-in, mend-in, points-at-most, points-paid, combo-agrees, ticked-in, effect-in}
 use Rattle.step.specs.Step.{begunOf, progressedOf, improvedOf, wornOf, refreshedOf, paidOf, combinedOf, timedOf, affectedOf, executedOf}
-use Rattle.step.specs.Asked.{Payable, Playable, Progressing, Touching}
+use Rattle.step.specs.inner.Asked.{Payable, Playable, Progressing, Touching}
 
 module _ (c : CraftContext) (s : CraftState) (n : ℕ) (row : Attributes) where
   -- ---- the state after each part

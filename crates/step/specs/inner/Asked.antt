@@ -1,4 +1,4 @@
--- What the inner functions of one action ask: a context and a state inside the limits, and what makes the action legal there.
+-- For the contracts of inner functions: what those of one action ask, a context and a state inside the limits, and what makes the action legal there.
 -- Assumes nothing.
 use mathlib.Core.Path.{_≡_}
 use mathlib.Core.Bool.{false}
