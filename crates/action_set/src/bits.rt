@@ -4,7 +4,7 @@ ghost use Prim.Native.Nat.{_^_, _≤_, _<_};
 ghost use lib.ListN.{length};
 ghost use Rattle.laws.specs.Lists.{elem};
 ghost use Rattle.laws.specs.Bits.{has};
-ghost use Rattle.laws.specs.laws.Bits.{Member, Top};
+ghost use Rattle.laws.specs.inner.Bits.{Member, Top};
 ghost use Rattle.text.specs.Over.{Put};
 ghost use Rattle.action.specs.Known.{actions, knownFront};
 ghost use Rattle.action_set.specs.Sets.{SetIn, withOf, withoutOf, keepOf, sizeOf, setOf, membersOf};

@@ -11,7 +11,8 @@ use Rattle.text.specs.Over.{over}
 use Rattle.text.specs.laws.Over.{over-is, over-step, over-none}
 use Rattle.text.specs.Reading.{valueOf}
 use Rattle.context_line.specs.Shape.{digits, wide, shaped, valuesOf, fields, others, lineShaped, numbersOf}
-use Rattle.context_line.specs.laws.Shape.{noNumbers, readOf, values-length}
+use Rattle.context_line.specs.inner.Line.{noNumbers, readOf}
+use Rattle.context_line.specs.laws.Shape.{values-length}
 use Rattle.context_line.specs.laws.Shape.{shape-narrow, shape-on, shape-parted, shape-whole, shape-more, values-on, values-last, space-within}
 
 pub record Walk (line values : List ℕ) (k at : ℕ) : Type 0 where

@@ -3,4 +3,5 @@
 pub mod Shape
 pub mod Fields
 pub mod Read
+pub mod inner
 pub mod laws

@@ -5,7 +5,7 @@ ghost use lib.ListN.{length, getD};
 ghost use Rattle.refusal.specs.Judge.{checkedOf, Says};
 ghost use Rattle.context_line.specs.Shape.{fields};
 ghost use Rattle.context_line.specs.Fields.{wordMost, fitsTest, contextOf, numberTests};
-ghost use Rattle.context_line.specs.laws.Fields.{Fitting};
+ghost use Rattle.context_line.specs.inner.Line.{Fitting};
 ghost use Rattle.context_line.specs.Read.{read as Reads·read};
 use action_set::ActionSet;
 use craft_context::CraftContext;

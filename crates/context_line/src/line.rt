@@ -4,7 +4,7 @@ ghost use lib.Dec.{eqb};
 ghost use lib.ListN.{getD};
 ghost use Rattle.refusal.specs.Judge.{Says};
 ghost use Rattle.context_line.specs.Shape.{lineEnd, numbersOf};
-ghost use Rattle.context_line.specs.laws.Shape.{noNumbers, readOf};
+ghost use Rattle.context_line.specs.inner.Line.{noNumbers, readOf};
 ghost use Rattle.context_line.specs.Fields.{contextOf};
 ghost use Rattle.context_line.specs.Read.{read as Reads·read, lineTests};
 use crate::fields::FIELDS;

@@ -5,7 +5,7 @@ ghost use Prim.Native.Nat.{_+_, _-_, _≤_};
 ghost use lib.ListN.{length, drop};
 ghost use Rattle.text.specs.Reading.{valueOf};
 ghost use Rattle.context_line.specs.Shape.{digit, digits, wide};
-ghost use Rattle.context_line.specs.laws.Runs.{Run};
+ghost use Rattle.context_line.specs.inner.Line.{Run};
 
 const ZERO: u8 = 48;
 

@@ -4,7 +4,7 @@ ghost use Prim.Native.Nat.{_≤_};
 ghost use Rattle.action.specs.Limits.{factorMost};
 ghost use Rattle.craft_context.specs.Limits.{statMost};
 ghost use Rattle.craft_context.specs.Factor.{baseOf, scaledOf, factorOf};
-ghost use Rattle.craft_context.specs.laws.Factor.{Bounded};
+ghost use Rattle.craft_context.specs.inner.Factor.{Bounded};
 use std::num;
 
 // stat * 10 over div, and plus: 2 for progress, 35 for quality.

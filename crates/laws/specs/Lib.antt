@@ -1,4 +1,5 @@
 pub mod Bits
 pub mod Lists
 pub mod Floats
+pub mod inner
 pub mod laws

@@ -12,7 +12,7 @@ use Rattle.text.specs.Over.{over, Put}
 use Rattle.tree.specs.declared.node.Node.{Node}
 use Rattle.tree.specs.Tree.{isChild, childrenOf, bestOf, solutionOf, endOf}
 use Rattle.tree.specs.inner.Best.{noBest, pickOf}
-use Rattle.tree.specs.laws.Tree.{SoundTree}
+use Rattle.tree.specs.inner.Sound.{SoundTree}
 use Rattle.tree.proofs.node.Node as T
 use Rattle.tree.proofs.node.Node.Laws as T′
 use Rattle.tree.proofs.best.Best as B

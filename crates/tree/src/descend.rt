@@ -4,7 +4,7 @@ ghost use Prim.Native.Nat.{_≤_};
 ghost use lib.ListN.{length};
 ghost use Rattle.text.specs.Over.{over};
 ghost use Rattle.tree.specs.Tree.{bestOf, solutionOf, endOf};
-ghost use Rattle.tree.specs.laws.Tree.{SoundTree};
+ghost use Rattle.tree.specs.inner.Sound.{SoundTree};
 use super::best::Best;
 use super::best::pick;
 use super::node::Node;

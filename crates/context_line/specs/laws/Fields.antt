@@ -17,11 +17,7 @@ use Rattle.refusal.specs.Judge.{checkedOf}
 use Rattle.refusal.specs.laws.Judge.{alone, shown}
 use Rattle.context_line.specs.Shape.{fields}
 use Rattle.context_line.specs.Fields.{mosts, fitting, fitsTest}
-
--- fifteen numbers, each of which its field takes: what `context_of` asks
-pub record Fitting (values : List ℕ) : Type 0 where
-  pub count : length values ≡ fields
-  pub fits : fitting mosts values ≡ true
+use Rattle.context_line.specs.inner.Line.{Fitting}
 
 -- a scan at place i: a number that fits, one that does not, no number left
 module _ (most values : List ℕ) {i : ℕ} (h : i < length most) (l : i < length values) where

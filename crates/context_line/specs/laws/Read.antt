@@ -16,8 +16,9 @@ use Rattle.craft_context.specs.Limits.{contextTests, ContextIn}
 use Rattle.craft_context.specs.laws.Limits.{context-in}
 use Rattle.context_line.specs.Shape.{others, lineShaped, numbersOf, lineTest}
 use Rattle.context_line.specs.Fields.{byteMost, fitsTest, contextOf, numberTests}
-use Rattle.context_line.specs.laws.Fields.{Fitting, at-most}
-use Rattle.context_line.specs.laws.Shape.{readOf, values-length}
+use Rattle.context_line.specs.inner.Line.{Fitting, readOf}
+use Rattle.context_line.specs.laws.Fields.{at-most}
+use Rattle.context_line.specs.laws.Shape.{values-length}
 use Rattle.context_line.specs.Read.{read, lineTests}
 use Rattle.context_line.specs.declared.line.Numbers.{Numbers}
 use Rattle.context_line.specs.declared.fields.Read.{Read}

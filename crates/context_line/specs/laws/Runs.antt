@@ -17,11 +17,7 @@ use Rattle.laws.specs.laws.Tests.{both}
 use Rattle.text.specs.Reading.{valueIn}
 use Rattle.context_line.specs.Shape.{digit, digits, digitsMost}
 use Rattle.laws.specs.Lists.{front}
-
--- digits alone, few enough for a number: what `runs::number` asks
-pub record Run (text : List ℕ) : Type 0 where
-  pub few : length text ≤ digitsMost
-  pub each : (i : ℕ) → i < length text → digit (getD text i 0) ≡ true
+use Rattle.context_line.specs.inner.Line.{Run}
 
 module _ {b : ℕ} (d : digit b ≡ true) where
   pub digit-from : 48 ≤ b

@@ -13,15 +13,9 @@ use Rattle.laws.specs.laws.Front.{front-le}
 use Rattle.laws.specs.laws.Tests.{true-false, both}
 use Rattle.text.specs.Reading.{valueOf}
 use Rattle.context_line.specs.Shape.{digit, digits, digitsMost, wide, shaped, valuesOf, fields, lineShaped, numbersOf}
-use Rattle.context_line.specs.laws.Runs.{Run, run-front}
+use Rattle.context_line.specs.inner.Line.{Run}
+use Rattle.context_line.specs.laws.Runs.{run-front}
 use Rattle.context_line.specs.declared.line.Numbers.{Numbers}
-
--- what the code reads a line into: its numbers where it is shaped, else zeros
-abbrev pub noNumbers : Numbers
-noNumbers = record { shaped = false; values = replicate fields 0 }
-
-abbrev pub readOf : List ℕ → Numbers
-readOf line = record { shaped = lineShaped line; values = cond (lineShaped line) (numbersOf line) (noNumbers .values) }
 
 and-yes : {a : Bool} (b : Bool) → a ≡ true → a && b ≡ b
 and-yes b e = rw e

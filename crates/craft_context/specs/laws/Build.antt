@@ -8,7 +8,7 @@ use Rattle.laws.specs.laws.Tests.{both}
 use Rattle.refusal.specs.laws.Judge.{shown}
 use Rattle.craft_context.specs.Limits.{divMost, Buildable}
 use Rattle.craft_context.specs.Factor.{qualityPlus}
-use Rattle.craft_context.specs.laws.Factor.{Bounded}
+use Rattle.craft_context.specs.inner.Factor.{Bounded}
 use Rattle.craft_context.specs.declared.sheet.Player.{Player}
 use Rattle.craft_context.specs.declared.sheet.Recipe.{Recipe}
 

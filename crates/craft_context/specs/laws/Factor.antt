@@ -13,14 +13,7 @@ use Rattle.action.specs.Limits.{factorMost}
 use Rattle.laws.specs.Floats.{float, hundredths}
 use Rattle.craft_context.specs.Limits.{statMost, divMost, modMost}
 use Rattle.craft_context.specs.Factor.{qualityPlus, baseOf, scaledOf, factorOf}
-
--- what a factor rests on, and what `base_factor` asks: numbers that passed the builder's tests (`build-bounded` in Build.antt)
-pub record Bounded (stat divisor plus modifier : ℕ) : Type 0 where
-  pub strong : stat ≤ statMost
-  pub divided : 0 < divisor
-  pub divisorMost : divisor ≤ divMost
-  pub raised : plus ≤ qualityPlus
-  pub modified : modifier ≤ modMost
+use Rattle.craft_context.specs.inner.Factor.{Bounded}
 
 module _ {stat divisor plus modifier : ℕ} (b : Bounded stat divisor plus modifier) where
   -- at most 10,000 * 10 / 1

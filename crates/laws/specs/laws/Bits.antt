@@ -15,18 +15,9 @@ use lib.Pow.{pow-pos, pow-add, pow-mono, mod-pow-add, mod-mod-pow, field, high, 
 use lib.Count.{ones, ones-cat, leadingZeros, leading-top}
 use Rattle.laws.specs.laws.Tests.{or-false, or-true, and-true, and-false, either, true-false}
 use Rattle.laws.specs.Bits.{has, collect, withBit, withoutBit, keepBits, count, highestBelow}
+use Rattle.laws.specs.inner.Bits.{Member, Top}
 
 -- ---- what inner functions over bits answer
-
--- n is a set bit of s, and below w
-pub record Member (w s n : ℕ) : Type 0 where
-  pub known : n < w
-  pub is : has s n ≡ true
-
--- n is the highest set bit of s
-pub record Top (s n : ℕ) : Type 0 where
-  pub low : 2 ^ n ≤ s
-  pub high : s < 2 ^ suc n
 
 -- ---- one digit
 

@@ -7,7 +7,8 @@ use native.Mathlib.Nat.{le-refl, lt-of-le-of-lt, le-trans, add-comm}
 use native.Mathlib.Omega.{arith}
 use lib.Pow.{pow-pos}
 use Rattle.laws.specs.Bits.{keepBits}
-use Rattle.laws.specs.laws.Bits.{Member, has-low, keep-step, keep-none}
+use Rattle.laws.specs.inner.Bits.{Member}
+use Rattle.laws.specs.laws.Bits.{has-low, keep-step, keep-none}
 
 -- s is walked, `kept` is what is held of it, `rest` what is still to be tested
 pub record Walk (w : ℕ) (f : ℕ → Bool) (s kept rest : ℕ) : Type 0 where

@@ -19,7 +19,8 @@ use Rattle.tree.specs.Node.{isScore, isFull, touchedOf}
 use Rattle.tree.specs.Sound.{soundAt}
 use Rattle.tree.specs.laws.Node.{touched-differs, touched-sound}
 use Rattle.tree.specs.Tree.{noNode, nodeAt, Falls, pathOf, anyFull, touchedAt, touchedAll, backOf}
-use Rattle.tree.specs.laws.Tree.{SoundTree, tree-falls}
+use Rattle.tree.specs.inner.Sound.{SoundTree}
+use Rattle.tree.specs.laws.Tree.{tree-falls}
 use Rattle.tree.specs.laws.Climb.{Falling, path-here, path-up, path-falling, path-touched}
 
 -- ---- a visit of each record on a path whose numbers fall

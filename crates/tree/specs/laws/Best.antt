@@ -27,7 +27,8 @@ use Rattle.tree.specs.Tree.{nodeAt, isChild, childrenOf, yields, allYiel
 use Rattle.tree.specs.inner.Best.{noBest, isBetter, pickOf, bestTo}
 use Rattle.tree.specs.laws.Float.{at-most}
 use Rattle.tree.specs.laws.Node.{holds, sound-parts}
-use Rattle.tree.specs.laws.Tree.{SoundTree, last-or-below}
+use Rattle.tree.specs.inner.Sound.{SoundTree}
+use Rattle.tree.specs.laws.Tree.{last-or-below}
 use Rattle.tree.specs.laws.Children.{children-each}
 
 -- ---- maxima are in one order

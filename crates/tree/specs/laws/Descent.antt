@@ -13,7 +13,8 @@ use Rattle.text.specs.Over.{over, Put}
 use Rattle.text.specs.laws.Over.{length-over, over-none, over-more}
 use Rattle.tree.specs.declared.node.Node.{Node}
 use Rattle.tree.specs.Tree.{nodeAt, bestOf, descentOf, actionsOf, lastOf, solutionOf, endOf}
-use Rattle.tree.specs.laws.Tree.{SoundTree, tree-falls}
+use Rattle.tree.specs.inner.Sound.{SoundTree}
+use Rattle.tree.specs.laws.Tree.{tree-falls}
 use Rattle.tree.specs.laws.Solution.{best-below, best-rises, descent-stop, descent-on, solution-length}
 
 -- record p is on the way down, len records below record 0

@@ -12,7 +12,7 @@ use Rattle.refusal.specs.declared.Checked.the-variants.{Passed, Refused}
 use Rattle.refusal.specs.Judge.{Test, judged, checksOf, roomTest, Kind}
 use Rattle.refusal.specs.Demands.{numbersIn, RefusesWhole}
 use Rattle.refusal.specs.laws.Demands.{number-among, refused-whole}
-use Rattle.refusal.specs.laws.Judge.{shown, judged-passed, one-answer}
+use Rattle.refusal.specs.laws.Judge.{shown, judged-passed, one-answer, judged-map}
 use Rattle.laws.specs.laws.Tests.{true-false}
 use Rattle.action.specs.Known.{actionTest}
 use Rattle.tree.specs.declared.node.Node.{Node}
@@ -24,18 +24,6 @@ use Rattle.tree.specs.laws.Kept.{new-kept, insert-kept}
 use Rattle.tree.specs.Grow.{isPlanted, isInserted, PlantAnswer, InsertAnswer, Changes, Plants, Inserts}
 
 -- ---- the records, from the answer
-
--- what is worked out of an answer is worked out of each of its ways
-judged-map : {A B : Type 0} (f : A → B) (refused : Refusal → A) (answer : A) (tests : List Test)
-    → f (judged refused answer tests) ≡ judged (λ x. f (refused x)) (f answer) tests
-unfolding judged
-judged-map f refused answer [] = refl
-judged-map f refused answer (t ∷ rest) = by (t .passed) (judged-map f refused answer rest)
-  where
-    by : (b : Bool) → f (judged refused answer rest) ≡ judged (λ x. f (refused x)) (f answer) rest
-        → f (cond b (judged refused answer rest) (refused (t .otherwise))) ≡ cond b (judged (λ x. f (refused x)) (f answer) rest) (f (refused (t .otherwise)))
-    by true later = later
-    by false later = refl
 
 let-through : (tests : List Test) → judged (λ x. false) true tests ≡ true → Passed ≡ checksOf tests
 unfolding judged

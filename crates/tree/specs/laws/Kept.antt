@@ -17,7 +17,8 @@ use Rattle.action.specs.Known.{actionTest}
 use Rattle.tree.specs.declared.node.Node.{Node}
 use Rattle.tree.specs.Node.{isScore, scoreTest, touchedOf}
 use Rattle.tree.specs.Tree.{nodeAt, isSound, plantedOf, insertedOf, isAbove, pathOf, anyFull, backOf}
-use Rattle.tree.specs.laws.Tree.{SoundTree, tree-of, of-tree, planted-sound, inserted-sound}
+use Rattle.tree.specs.inner.Sound.{SoundTree}
+use Rattle.tree.specs.laws.Tree.{tree-of, of-tree, planted-sound, inserted-sound}
 use Rattle.tree.specs.laws.Climb.{path-reaches}
 use Rattle.tree.specs.laws.Back.{back-on, back-off, back-differs, back-sound}
 use Rattle.tree.specs.Refusals.{treeTest, nodeTest, aboveTest, visitsTest, newCount, newTests, insertTests, backTests}

@@ -22,7 +22,8 @@ use Rattle.tree.specs.declared.back.Propagated.{Propagated}
 use Rattle.tree.specs.declared.back.Propagated.the-variants as P
 use Rattle.tree.specs.Node.{scoreTest}
 use Rattle.tree.specs.Tree.{isSound, isAbove, pathOf, anyFull, backOf}
-use Rattle.tree.specs.laws.Tree.{SoundTree, tree-of, tree-falls}
+use Rattle.tree.specs.inner.Sound.{SoundTree}
+use Rattle.tree.specs.laws.Tree.{tree-of, tree-falls}
 use Rattle.tree.specs.Refusals.{treeTest, nodeTest, aboveTest, visitsTest, backTests}
 use Rattle.tree.specs.laws.Kept.{back-kept}
 use Rattle.tree.specs.Back.{Climbs, Reaches, Surveys, endTests, wayTests, isPassed, answerOf, Propagates}

@@ -8,7 +8,8 @@ use native.Mathlib.Omega.{arith}
 use lib.ListN.{length, length-map}
 use Rattle.tree.specs.declared.node.Node.{Node}
 use Rattle.tree.specs.Tree.{nodeAt, Falls, childrenOf, bestOf, onward, descentIn, descentOf, lastOf, solutionOf, endOf}
-use Rattle.tree.specs.laws.Tree.{SoundTree, tree-falls}
+use Rattle.tree.specs.inner.Sound.{SoundTree}
+use Rattle.tree.specs.laws.Tree.{tree-falls}
 use Rattle.tree.specs.laws.Best.{child-parent, best-listed, best-childless}
 
 module _ (nodes : List Node) (count : ℕ) (falls : Falls nodes count) where

@@ -13,7 +13,8 @@ use Rattle.laws.specs.laws.Tests.{both, or-true}
 use Rattle.tree.specs.declared.node.Node.{Node}
 use Rattle.tree.specs.Tree.{nodeAt, isSound, Falls, aboveIn, isAbove, pathIn, pathOf, descentIn, descentOf, lastOf}
 use Rattle.tree.specs.laws.Node.{sound-parts}
-use Rattle.tree.specs.laws.Tree.{SoundTree, tree-of, tree-falls}
+use Rattle.tree.specs.inner.Sound.{SoundTree}
+use Rattle.tree.specs.laws.Tree.{tree-of, tree-falls}
 use Rattle.tree.specs.laws.Climb.{path-steps, above-steps, above-here}
 use Rattle.tree.specs.laws.Solution.{descent-steps}
 

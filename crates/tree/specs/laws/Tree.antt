@@ -19,13 +19,9 @@ use Rattle.tree.specs.Node.{nodeOf, rootNode}
 use Rattle.tree.specs.Sound.{soundAt}
 use Rattle.tree.specs.laws.Node.{sound-parts, root-sound, new-sound}
 use Rattle.tree.specs.Tree.{noNode, nodeAt, soundTo, isSound, plantedOf, insertedOf, Falls}
+use Rattle.tree.specs.inner.Sound.{SoundTree}
 
 -- ---- soundness, record by record
-
-pub record SoundTree (nodes : List Node) (count : ℕ) : Type 0 where
-  pub some : 0 < count
-  pub room : count ≤ length nodes
-  pub each : (k : ℕ) → k < count → soundAt k (nodeAt nodes k) ≡ true
 
 pub last-or-below : (k m : ℕ) → k < suc m → (k ≡ m) ⊎ (k < m)
 last-or-below k m h = let most : k ≤ m = omega arith in eq-or-lt-of-le most

@@ -9,7 +9,7 @@ use Rattle.text.specs.Over.{Put}
 use Rattle.tree.specs.declared.node.Node.{Node}
 use Rattle.tree.specs.declared.best.Best.{Best}
 use Rattle.tree.specs.Tree.{nodeAt, bestOf}
-use Rattle.tree.specs.laws.Tree.{SoundTree}
+use Rattle.tree.specs.inner.Sound.{SoundTree}
 use Rattle.tree.specs.laws.Descent.{Down, Stored, some, down-first, down-room, down-rises, down-on, down-end, stored-first, stored-on, stored-all}
 use Rattle.tree.proofs.best.Best as B
 use Rattle.walks.proofs.Walking.{_≡_, refl, sym, _∙_, subst, ℕ, _-_, _<_, _^_, arith, List, [], _∷_, eqb, lit<, not-true, not-false, tables, _$_, !, ‵, move, lit, of-opd, bin, no-more, cited, usize′, none, has, holding, env, opd, part, _&_, sets, lands-in, lands-last, keeps, returns, whiles, reborrows, fat, Own, Shr, Tok, then, last, calls-mut, calls-shr, both-proved}

@@ -9,7 +9,8 @@ use Rattle.refusal.proofs.Refusal as F
 use Rattle.refusal.proofs.Refusal.Laws as F′
 use Rattle.tree.specs.declared.paths.Offspring.the-variants.{Children, Refused}
 use Rattle.tree.specs.Tree.{isSound}
-use Rattle.tree.specs.laws.Tree.{SoundTree, tree-of}
+use Rattle.tree.specs.inner.Sound.{SoundTree}
+use Rattle.tree.specs.laws.Tree.{tree-of}
 use Rattle.tree.specs.laws.Paths.{children-unsound, children-unknown, children-short, children-listed}
 use Rattle.tree.proofs.paths.Offspring as answer
 use Rattle.tree.proofs.paths.Offspring.Laws as answer′

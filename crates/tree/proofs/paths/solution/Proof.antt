@@ -9,7 +9,8 @@ use Rattle.refusal.proofs.Refusal as F
 use Rattle.refusal.proofs.Refusal.Laws as F′
 use Rattle.tree.specs.declared.paths.Solved.the-variants.{Solution, Refused}
 use Rattle.tree.specs.Tree.{isSound}
-use Rattle.tree.specs.laws.Tree.{SoundTree, tree-of}
+use Rattle.tree.specs.inner.Sound.{SoundTree}
+use Rattle.tree.specs.laws.Tree.{tree-of}
 use Rattle.tree.specs.laws.Paths.{solution-unsound, solution-short, solution-solved}
 use Rattle.tree.proofs.paths.Solved as answer
 use Rattle.tree.proofs.paths.Solved.Laws as answer′
