@@ -5,4 +5,5 @@ pub mod States
 pub mod Replays
 pub mod Lists
 pub mod Program
+pub mod inner
 pub mod laws

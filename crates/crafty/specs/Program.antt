@@ -7,19 +7,17 @@ use lib.ListN.{length, take, drop}
 use Rattle.refusal.specs.declared.Refusal.{Refusal}
 use Rattle.refusal.specs.declared.Refusal.the-variants.{MalformedLine}
 use Rattle.refusal.specs.Report.{reportOf}
-use Rattle.refusal.specs.Judge.{Test, judged, Writes, sizeTest}
+use Rattle.refusal.specs.Judge.{Test, judged, sizeTest}
 use Rattle.text.specs.Bytes.{bytes}
 use Rattle.text.specs.Decimal.{decimalOf}
-use Rattle.text.specs.Over.{over}
 use Rattle.rotation.specs.Words.{actionsIn, wordsTest}
 use Rattle.craft_context.specs.declared.context.CraftContext.{CraftContext}
 use Rattle.context_line.specs.Shape.{lineEnd, numbersOf}
 use Rattle.context_line.specs.Fields.{contextOf}
 use Rattle.context_line.specs.Read.{lineTests}
 use Rattle.transcript.specs.Transcript.{transcriptOf}
-use Rattle.crafty.specs.Room.{written, WritesText, Fits}
+use Rattle.crafty.specs.Room.{WritesText, Fits}
 use Rattle.crafty.specs.declared.room.Written.{Written}
-use Rattle.crafty.specs.declared.room.Written.the-variants.{Length}
 
 -- ---- an input: a line up to its first byte 10, and the words after it
 
@@ -57,12 +55,3 @@ printedOf input = judged refusedTextOf (replayTextOf input) (inputTests input)
 
 abbrev pub Prints : List ℕ → List ℕ → Written → List ℕ → Type 0
 Prints input out r after = Fits (printedOf input) out r after
-
--- ---- of the inner functions, whose room is always enough
-
-abbrev pub RendersWords : CraftContext → ℕ → List ℕ → List ℕ → Written → List ℕ → Type 0
-RendersWords context base words room r after =
-    let text = transcriptOf context (actionsIn words) in Writes written (wordsTest base words ∷ []) (Length (length text)) room (over room 0 text) r after
-
-abbrev pub Renders : List ℕ → List ℕ → Written → List ℕ → Type 0
-Renders input room r after = Writes written (inputTests input) (Length (length (replayTextOf input))) room (over room 0 (replayTextOf input)) r after

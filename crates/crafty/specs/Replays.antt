@@ -31,9 +31,9 @@ Kept context mode list (R.Report replay) = Promise context mode list replay
 Kept context mode list (R.Refused x) = Unit {0}
 
 -- no score is a NaN
-abbrev ScoreIsNumberIn : Replayed → Type 0
-ScoreIsNumberIn (R.Report replay) = ScoreIsNumber (replay .result)
-ScoreIsNumberIn (R.Refused x) = Unit {0}
+abbrev ReplayedNumber : Replayed → Type 0
+ReplayedNumber (R.Report replay) = ScoreIsNumber (replay .result)
+ReplayedNumber (R.Refused x) = Unit {0}
 
 -- the number and score of the result that is reported, and none where the call is refused
 abbrev pub verdictsIn : Replayed → List Verdict
@@ -51,4 +51,4 @@ pub record Replays (context : CraftContext) (mode : Mode) (list : List ℕ) (r :
   pub verdict : verdictsIn r ≡ judged (λ x. []) (verdictIn (replayOf context mode list .result) ∷ []) (replayTests context list)
   -- which executes the longest leading part whose actions are each legal where they stand, with all that demand 3 says of each action
   pub promise : Kept context mode list r
-  pub score : ScoreIsNumberIn r
+  pub score : ReplayedNumber r

@@ -77,9 +77,9 @@ abbrev pub Steps : CraftContext → CraftState → Mode → ℕ → Stepped → 
 Steps context state mode n r = Says stepped (givenTests context state ++ (actionTest n ∷ legalTest context state mode n ∷ [])) (S.To (executeOf context state n)) r
 
 -- no score is a NaN, in a result or alone
-abbrev ScoreIsNumberIn : Judged → Type 0
-ScoreIsNumberIn (J.Result result) = ScoreIsNumber result
-ScoreIsNumberIn (J.Refused x) = Unit {0}
+abbrev JudgedNumber : Judged → Type 0
+JudgedNumber (J.Result result) = ScoreIsNumber result
+JudgedNumber (J.Refused x) = Unit {0}
 
 abbrev NumberIn : Scored → Type 0
 NumberIn (C.Score score) = T (not (isNan score))
@@ -95,7 +95,7 @@ pub record HasResult (context : CraftContext) (state : CraftState) (mode : Mode)
   pub says : Says resulted (givenTests context state) (J.Result (resultOf context state mode)) r
   -- by its number, 0 to 4, and with its score
   pub verdict : verdictsOf r ≡ judged (λ x. []) (verdictIn (resultOf context state mode) ∷ []) (givenTests context state)
-  pub score : ScoreIsNumberIn r
+  pub score : JudgedNumber r
 
 abbrev pub HasScore : CraftContext → CraftState → Scored → Type 0
 HasScore context state r = Says scored (givenTests context state) (C.Score (scoreOf context state)) r × NumberIn r

@@ -17,16 +17,16 @@ use Rattle.crafty.specs.declared.lists.Lasting.{Lasting}
 use Rattle.crafty.specs.declared.lists.Lasting.the-variants as L
 use Rattle.crafty_c.specs.declared.answer.CraftyAnswer.{CraftyAnswer}
 
-abbrev pub valueIn : Also → ℕ
-valueIn Nothing = 0
-valueIn (Value value) = value
+abbrev pub alsoValue : Also → ℕ
+alsoValue Nothing = 0
+alsoValue (Value value) = value
 
 -- a success, and how much was written, or a list's seconds
 abbrev pub doneOf : ℕ → CraftyAnswer
 doneOf value = record { number = 0; value = value }
 
 abbrev pub refusedOf : Refusal → CraftyAnswer
-refusedOf x = record { number = reportOf x .0; value = valueIn (reportOf x .1) }
+refusedOf x = record { number = reportOf x .0; value = alsoValue (reportOf x .1) }
 
 abbrev pub wroteOf : Written → CraftyAnswer
 wroteOf (W.Length length) = doneOf length

@@ -1,6 +1,6 @@
 // What every function answers.
 ghost use mathlib.Core.Path.{_≡_};
-ghost use Rattle.crafty_c.specs.Answer.{valueIn, doneOf, refusedOf, wroteOf, lastedOf};
+ghost use Rattle.crafty_c.specs.Answer.{alsoValue, doneOf, refusedOf, wroteOf, lastedOf};
 use crafty::Lasting;
 use crafty::Written;
 use refusal::Also;
@@ -21,7 +21,7 @@ pub fn done(value: usize) -> CraftyAnswer
 }
 
 fn value_in(also: Also) -> usize
-    ensures { λ r. ⌜ r ≡ valueIn also ⌝ }
+    ensures { λ r. ⌜ r ≡ alsoValue also ⌝ }
 {
     match also {
         Also::Nothing => 0,

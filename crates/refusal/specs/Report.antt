@@ -2,7 +2,7 @@
 -- Assumes nothing.
 use Prim.Native.Nat.{ℕ}
 use Rattle.refusal.specs.declared.Refusal.{Refusal}
-use Rattle.refusal.specs.declared.Refusal.the-variants.{OutsideLimits, StateOutOfRange, UnknownAction, IllegalAction, UnknownWord, NoRoom, UnsoundTree, UnknownNode, NotAbove, BadScore, VisitsFull, MalformedLine, TooLong}
+use Rattle.refusal.specs.declared.Refusal.the-variants as R
 use Rattle.refusal.specs.declared.Also.the-variants.{Nothing, Value}
 use Rattle.refusal.specs.declared.Report.{Report}
 
@@ -17,16 +17,16 @@ abbrev pub success : Report
 success = bare 0
 
 abbrev pub reportOf : Refusal → Report
-reportOf OutsideLimits = bare 1
-reportOf StateOutOfRange = bare 2
-reportOf (UnknownAction place) = with 3 place
-reportOf IllegalAction = bare 4
-reportOf (UnknownWord offset) = with 5 offset
-reportOf (NoRoom needed) = with 6 needed
-reportOf UnsoundTree = bare 7
-reportOf UnknownNode = bare 8
-reportOf NotAbove = bare 9
-reportOf BadScore = bare 10
-reportOf VisitsFull = bare 11
-reportOf MalformedLine = bare 12
-reportOf TooLong = bare 13
+reportOf R.OutsideLimits = bare 1
+reportOf R.StateOutOfRange = bare 2
+reportOf (R.UnknownAction place) = with 3 place
+reportOf R.IllegalAction = bare 4
+reportOf (R.UnknownWord offset) = with 5 offset
+reportOf (R.NoRoom needed) = with 6 needed
+reportOf R.UnsoundTree = bare 7
+reportOf R.UnknownNode = bare 8
+reportOf R.NotAbove = bare 9
+reportOf R.BadScore = bare 10
+reportOf R.VisitsFull = bare 11
+reportOf R.MalformedLine = bare 12
+reportOf R.TooLong = bare 13

@@ -19,27 +19,27 @@ pub record Word : Type 0 where
   pub found : Found
 
 -- a word that has ended, where it has a byte
-abbrev pub ended : ℕ → List ℕ → List Word → List Word
-ended at [] more = more
-ended at (b ∷ word) more = record { at = at; found = foundOf (b ∷ word) } ∷ more
+abbrev pub wordEnded : ℕ → List ℕ → List Word → List Word
+wordEnded at [] more = more
+wordEnded at (b ∷ word) more = record { at = at; found = foundOf (b ∷ word) } ∷ more
 
 -- `word` has started at `at`, and `text` follows it
 unfoldable pub wordsFrom : ℕ → List ℕ → List ℕ → List Word
-wordsFrom at word [] = ended at word []
-wordsFrom at word (b ∷ text) = cond (gap b) (ended at word (wordsFrom (at + length word + 1) [] text)) (wordsFrom at (word ++ (b ∷ [])) text)
+wordsFrom at word [] = wordEnded at word []
+wordsFrom at word (b ∷ text) = cond (gap b) (wordEnded at word (wordsFrom (at + length word + 1) [] text)) (wordsFrom at (word ++ (b ∷ [])) text)
 
 unfoldable pub wordsOf : List ℕ → List Word
 wordsOf text = wordsFrom 0 [] text
 
 -- ---- the actions that they name
 
-abbrev pub listed : Found → List ℕ → List ℕ
-listed (Action n) rest = n ∷ rest
-listed Nothing rest = rest
+abbrev pub foundThen : Found → List ℕ → List ℕ
+foundThen (Action n) rest = n ∷ rest
+foundThen Nothing rest = rest
 
 abbrev pub numbers : List Word → List ℕ
 numbers [] = []
-numbers (w ∷ more) = listed (w .found) (numbers more)
+numbers (w ∷ more) = foundThen (w .found) (numbers more)
 
 -- each word is a name
 abbrev pub allFound : List Word → Bool

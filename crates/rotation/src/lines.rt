@@ -6,7 +6,7 @@ ghost use Rattle.refusal.specs.Judge.{sizeMost};
 ghost use Rattle.text.specs.Over.{Put};
 ghost use Rattle.action.specs.Known.{actions, knownFront};
 ghost use Rattle.rotation.specs.Lines.{lineOf, listTextOf};
-ghost use Rattle.rotation.specs.inner.Lines.{lineMost};
+ghost use Rattle.rotation.specs.inner.Lines.{nameLineMost};
 use super::gaps::NEWLINE;
 use action::Text;
 
@@ -23,7 +23,7 @@ const LINE_MOST: usize = 25;
 // The length of a name's line, which is put into a room of its own: none is longer.
 fn line_len(n: u8) -> usize
     requires { ⌜ n < actions ⌝ }
-    ensures { λ r. ⌜ (r ≡ length (lineOf n)) × (r ≤ lineMost) ⌝ }
+    ensures { λ r. ⌜ (r ≡ length (lineOf n)) × (r ≤ nameLineMost) ⌝ }
 {
     let mut room = [0u8; LINE_MOST];
     put_line(n, &mut room, 0)

@@ -1,4 +1,5 @@
 pub mod Replay
 pub mod Alone
 pub mod Promise
+pub mod inner
 pub mod laws

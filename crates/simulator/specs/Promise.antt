@@ -4,11 +4,10 @@
 use mathlib.Core.Path.{_≡_}
 use mathlib.Core.Bool.{true}
 use mathlib.Core.List.{List, [], _∷_}
-use Prim.Native.Nat.{ℕ, _+_, _≤_, _<_}
+use Prim.Native.Nat.{ℕ, _+_, _≤_}
 use lib.ListN.{length, take}
 use lib.Signed.{leZ}
 use Rattle.laws.specs.Bits.{has}
-use Rattle.action.specs.Known.{actions}
 use Rattle.action.specs.Limits.{quietMost}
 use Rattle.action.specs.Price.{chargeOf}
 use Rattle.action.specs.Table.{attributesOf}
@@ -22,10 +21,6 @@ use Rattle.moves.specs.declared.mode.Mode.{Mode}
 use Rattle.moves.specs.Moves.{movesOf}
 use Rattle.simulator.specs.declared.replay.Replay.{Replay}
 use Rattle.simulator.specs.Alone.{pricesOf, stepsIn}
-
-abbrev pub AllKnown : List ℕ → Type 0
-AllKnown [] = Unit {0}
-AllKnown (n ∷ rest) = (n < actions) × AllKnown rest
 
 -- the state after a list of actions, all executed
 unfoldable pub after : CraftContext → CraftState → List ℕ → CraftState

@@ -1,2 +1,3 @@
 pub mod Transcript
+pub mod inner
 pub mod laws

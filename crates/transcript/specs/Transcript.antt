@@ -17,7 +17,6 @@ use Rattle.score.specs.declared.result.CraftResult.{CraftResult}
 use Rattle.score.specs.declared.result.CraftResult.the-variants as R
 use Rattle.simulator.specs.declared.replay.Replay.{Replay}
 use Rattle.simulator.specs.Replay.{replayOf}
-use Rattle.simulator.specs.Promise.{AllKnown, EachLegal}
 
 -- a state's line, and byte 10
 unfoldable pub rowOf : CraftContext → CraftState → List ℕ
@@ -27,11 +26,6 @@ rowOf c s = displayOf c s ++ bytes "\n"
 unfoldable pub rowsOf : CraftContext → CraftState → List ℕ → List ℕ
 rowsOf c s [] = []
 rowsOf c s (n ∷ rest) = rowOf c (executeOf c s n) ++ rowsOf c (executeOf c s n) rest
-
--- asked of such a list: known actions, each legal where it stands
-pub record Played (c : CraftContext) (s : CraftState) (part : List ℕ) : Type 0 where
-  pub known : AllKnown part
-  pub legal : EachLegal c plain s part
 
 -- the score by the eight digits of its bits
 unfoldable pub finishedOf : Float → List ℕ
@@ -45,13 +39,13 @@ resultTextOf R.InvalidActionFailure = bytes "invalid"
 resultTextOf R.Continuing = bytes "continuing"
 
 -- the result, and how many were executed of how many
-unfoldable pub lastOf : CraftResult → ℕ → ℕ → List ℕ
-lastOf result executed listed =
+unfoldable pub lastLineOf : CraftResult → ℕ → ℕ → List ℕ
+lastLineOf result executed listed =
     resultTextOf result ++ bytes " executed " ++ decimalOf executed ++ bytes " of " ++ decimalOf listed ++ bytes "\n"
 
 -- what a replay's report says of its list
 unfoldable pub reportedOf : CraftContext → List ℕ → Replay → List ℕ
-reportedOf c list r = rowOf c (startOf c) ++ rowsOf c (startOf c) (take (r .executed) list) ++ lastOf (r .result) (r .executed) (length list)
+reportedOf c list r = rowOf c (startOf c) ++ rowsOf c (startOf c) (take (r .executed) list) ++ lastLineOf (r .result) (r .executed) (length list)
 
 unfoldable pub transcriptOf : CraftContext → List ℕ → List ℕ
 transcriptOf c list = reportedOf c list (replayOf c plain list)

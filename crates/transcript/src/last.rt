@@ -6,7 +6,7 @@ ghost use lib.ListN.{length};
 ghost use mathlib.Core.Bool.{not};
 ghost use Rattle.text.specs.Over.{Put};
 ghost use Rattle.score.specs.Result.{ScoreIsNumber};
-ghost use Rattle.transcript.specs.Transcript.{finishedOf, resultTextOf, resultMost, lastOf, lastMost};
+ghost use Rattle.transcript.specs.Transcript.{finishedOf, resultTextOf, resultMost, lastLineOf, lastMost};
 use score::CraftResult;
 
 // The score by its bits.
@@ -34,7 +34,7 @@ fn put_result(result: CraftResult, out: &mut [u8], at: usize) -> usize
 
 pub fn put_last(result: CraftResult, executed: u32, listed: u32, out: &mut [u8], at: usize) -> usize
     requires { ⌜ ScoreIsNumber result × (at + lastMost ≤ length (now out)) ⌝ }
-    ensures { λ r. ⌜ Put (now (out .entry)) at (lastOf result executed listed) r (now (out .exit)) ⌝ }
+    ensures { λ r. ⌜ Put (now (out .entry)) at (lastLineOf result executed listed) r (now (out .exit)) ⌝ }
 {
     let word = put_result(result, out, at);
     let number = text::put(out, word, b" executed ");

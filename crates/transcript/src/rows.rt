@@ -3,7 +3,8 @@ ghost use Prim.Native.Nat.{_+_, _*_, _≤_};
 ghost use lib.ListN.{length};
 ghost use Rattle.text.specs.Over.{Put};
 ghost use Rattle.craft_state.specs.Inside.{CraftIn};
-ghost use Rattle.transcript.specs.Transcript.{rowOf, rowMost, rowsOf, Played};
+ghost use Rattle.transcript.specs.Transcript.{rowOf, rowMost, rowsOf};
+ghost use Rattle.transcript.specs.inner.Played.{Played};
 use craft_context::CraftContext;
 use craft_state::CraftState;
 

@@ -15,7 +15,7 @@ use Rattle.tree.specs.Node.{isFull, touchedOf}
 use Rattle.tree.specs.Tree.{nodeAt, Falls, isAbove, pathOf, anyFull, touchedAt, backOf}
 use Rattle.tree.specs.laws.Climb.{above-here, above-up, above-not, touched-parent}
 use Rattle.tree.specs.laws.Back.{back-here, back-up, full-here, full-up}
-use Rattle.tree.specs.Back.{surveyOf, Climbs, Reaches, Surveys}
+use Rattle.tree.specs.inner.Back.{surveyOf, Climbs, Reaches, Surveys}
 
 -- ---- the test
 

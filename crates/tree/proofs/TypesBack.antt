@@ -14,7 +14,8 @@ use Rattle.tree.specs.declared.node.Node.{Node}
 use Rattle.tree.specs.Node.{isFull, touchedOf}
 use Rattle.tree.specs.Tree.{touchedAt, backOf}
 use Rattle.tree.specs.Refusals.{backTests}
-use Rattle.tree.specs.Back.{surveyOf, Climbs, Reaches, Surveys, endTests, wayTests, isPassed, answerOf, Propagates}
+use Rattle.tree.specs.Back.{Propagates}
+use Rattle.tree.specs.inner.Back.{surveyOf, Climbs, Reaches, Surveys, endTests, wayTests, isPassed, answerOf}
 use Rattle.tree.proofs.node.Node as T
 use Rattle.tree.proofs.node.Node.Laws as T′
 use Rattle.tree.proofs.climb.Survey as S

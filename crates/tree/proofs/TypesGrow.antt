@@ -10,7 +10,8 @@ use Rattle.refusal.proofs.Refusal.Laws as F′
 use Rattle.tree.specs.Node.{nodeOf, rootNode}
 use Rattle.tree.specs.Sound.{soundAt}
 use Rattle.tree.specs.Tree.{isSound}
-use Rattle.tree.specs.Grow.{isPlanted, isInserted, PlantAnswer, InsertAnswer, Plants, Inserts, Looks}
+use Rattle.tree.specs.Grow.{isPlanted, isInserted, Plants, Inserts, Looks}
+use Rattle.tree.specs.inner.Grow.{PlantAnswer, InsertAnswer}
 use Rattle.tree.proofs.node.Node as T
 use Rattle.tree.proofs.grow.Planted as P
 use Rattle.tree.proofs.grow.Planted.Laws as P′

@@ -3,12 +3,11 @@
 -- Assumes nothing.
 use mathlib.Core.Path.{_≡_, refl}
 use mathlib.Core.Bool.{Bool, true, false}
-use mathlib.Core.List.{List, [], _∷_}
+use mathlib.Core.List.{List}
 use Prim.Native.Nat.{ℕ, _+_}
 use Rattle.refusal.specs.declared.Report.{Report}
 use Rattle.refusal.specs.Report.{reportOf, success}
-use Rattle.refusal.specs.Judge.{Test, judged, roomTest, Kind, Says}
-use Rattle.action.specs.Known.{actionTest}
+use Rattle.refusal.specs.Judge.{Test, judged, Kind, Says}
 use Rattle.tree.specs.declared.node.Node.{Node}
 use Rattle.tree.specs.declared.grow.Planted.{Planted}
 use Rattle.tree.specs.declared.grow.Planted.the-variants as P
@@ -17,7 +16,7 @@ use Rattle.tree.specs.declared.grow.Inserted.the-variants as I
 use Rattle.tree.specs.declared.grow.Recorded.{Recorded}
 use Rattle.tree.specs.declared.grow.Recorded.the-variants as R
 use Rattle.tree.specs.Tree.{nodeAt, plantedOf, insertedOf}
-use Rattle.tree.specs.Refusals.{scannedTest, nodeTest, newCount, newTests, recordTests, insertTests}
+use Rattle.tree.specs.Refusals.{newCount, newTests, recordTests, insertTests}
 
 -- ---- document 01's number and values for each case of the answers
 
@@ -51,14 +50,6 @@ isPlanted (P.Refused x) = false
 abbrev pub isInserted : Inserted → Bool
 isInserted (I.At number count) = true
 isInserted (I.Refused x) = false
-
-abbrev pub PlantAnswer : ℕ → Planted → Type 0
-PlantAnswer records r = Says planted (roomTest records newCount ∷ []) (P.Count newCount) r
-
--- the new record's number is the count, and the new count is one more
-abbrev pub InsertAnswer : Bool → ℕ → ℕ → ℕ → ℕ → Inserted → Type 0
-InsertAnswer sound records count parent action r =
-    Says inserted (actionTest action ∷ scannedTest sound ∷ nodeTest count parent ∷ roomTest records (count + 1) ∷ []) (I.At count (count + 1)) r
 
 -- ---- the entries: the answer, and what the records hold then, which is what they held where a test fails
 

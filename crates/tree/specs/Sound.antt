@@ -1,5 +1,5 @@
 -- Document 01, Tree: when a record is sound at its number. "Record 0 has parent 0, action 31. Others: parent below own number, action ≤ 30. All: visits whole,
--- 0..=16,777,216; |score_sum| ≤ visits; max_score from +0 to 1, minus zero excluded.
+-- 0..=16,777,216; |score_sum| ≤ visits; max_score from +0 to 1, minus zero excluded."
 -- Assumes nothing.
 use mathlib.Core.Bool.{Bool, false, not, cond, _&&_}
 use Prim.Native.Nat.{ℕ}

@@ -2,7 +2,8 @@
 ghost use mathlib.Core.Path.{_≡_};
 ghost use Rattle.refusal.specs.Judge.{checksOf};
 ghost use Rattle.tree.specs.Refusals.{backTests};
-ghost use Rattle.tree.specs.Back.{endTests, wayTests, isPassed, answerOf, Propagates};
+ghost use Rattle.tree.specs.Back.{Propagates};
+ghost use Rattle.tree.specs.inner.Back.{endTests, wayTests, isPassed, answerOf};
 use super::climb::Survey;
 use super::climb::survey_path;
 use super::climb::touch_path;

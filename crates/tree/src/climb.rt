@@ -5,7 +5,7 @@ ghost use Prim.Native.Nat.{_<_};
 ghost use lib.ListN.{length};
 ghost use Rattle.tree.specs.Node.{isFull};
 ghost use Rattle.tree.specs.Tree.{touchedAt, backOf};
-ghost use Rattle.tree.specs.Back.{surveyOf, Climbs, Reaches, Surveys};
+ghost use Rattle.tree.specs.inner.Back.{surveyOf, Climbs, Reaches, Surveys};
 use super::node::Node;
 use super::node::is_full;
 use super::node::touched;

@@ -29,7 +29,8 @@ use Rattle.context_line.specs.declared.fields.Read.{Read}
 use Rattle.context_line.specs.declared.fields.Read.the-variants as R
 use Rattle.transcript.specs.Transcript.{transcriptMost}
 use Rattle.transcript.specs.laws.Transcript.{transcript-short}
-use Rattle.crafty.specs.Program.{lineIn, wordsIn, contextIn, endTest, inputTests, replayTextOf, refusedTextOf, printedOf, ReplaysText, Prints, RendersWords, Renders}
+use Rattle.crafty.specs.Program.{lineIn, wordsIn, contextIn, endTest, inputTests, replayTextOf, refusedTextOf, printedOf, ReplaysText, Prints}
+use Rattle.crafty.specs.inner.Program.{RendersWords, Renders}
 use Rattle.crafty.specs.Room.{written}
 use Rattle.crafty.specs.laws.Room.{fits-length}
 use Rattle.crafty.specs.declared.room.Written.{Written}

@@ -4,5 +4,5 @@ use Prim.Native.Nat.{ℕ, _+_}
 use Rattle.action.specs.inner.Texts.{longest}
 
 -- no line is longer
-abbrev pub lineMost : ℕ
-lineMost = longest + 1
+abbrev pub nameLineMost : ℕ
+nameLineMost = longest + 1

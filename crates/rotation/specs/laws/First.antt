@@ -15,15 +15,15 @@ use Rattle.action.specs.Names.{foundOf, isFound}
 use Rattle.action.specs.declared.names.Found.{Found}
 use Rattle.action.specs.declared.names.Found.the-variants.{Action, Nothing}
 use Rattle.rotation.specs.Gaps.{gap, letter}
-use Rattle.rotation.specs.Words.{Word, ended, wordsFrom, wordsOf, allFound, firstUnknown, wordsKnown, unknownAt}
+use Rattle.rotation.specs.Words.{Word, wordEnded, wordsFrom, wordsOf, allFound, firstUnknown, wordsKnown, unknownAt}
 use Rattle.rotation.specs.laws.Words.{words-cases, words-gap, words-letter, words-end, one-word, words-seam}
 use Rattle.rotation.specs.First.{wordAt, FirstUnknown}
 
 -- ---- a word that has ended: it is known, and the rest decides, or it is the first unknown one
 
 module _ (at : ℕ) (word : List ℕ) (more : List Word) where
-  ended-known : allFound (ended at word []) ≡ true
-      → (allFound (ended at word more) ≡ allFound more) × (firstUnknown (ended at word more) ≡ firstUnknown more)
+  ended-known : allFound (wordEnded at word []) ≡ true
+      → (allFound (wordEnded at word more) ≡ allFound more) × (firstUnknown (wordEnded at word more) ≡ firstUnknown more)
   ended-known = by word
     where
       on : (f : Found) → isFound f && true ≡ true
@@ -31,19 +31,19 @@ module _ (at : ℕ) (word : List ℕ) (more : List Word) where
       on (Action n) t = (refl, refl)
       on Nothing t = absurd (true-false (sym t))
 
-      by : (w : List ℕ) → allFound (ended at w []) ≡ true
-          → (allFound (ended at w more) ≡ allFound more) × (firstUnknown (ended at w more) ≡ firstUnknown more)
+      by : (w : List ℕ) → allFound (wordEnded at w []) ≡ true
+          → (allFound (wordEnded at w more) ≡ allFound more) × (firstUnknown (wordEnded at w more) ≡ firstUnknown more)
       by [] t = (refl, refl)
       by (b ∷ w) t = on (foundOf (b ∷ w)) t
 
-  ended-unknown : allFound (ended at word []) ≡ false → (0 < length word) × (foundOf word ≡ Nothing) × (firstUnknown (ended at word more) ≡ at)
+  ended-unknown : allFound (wordEnded at word []) ≡ false → (0 < length word) × (foundOf word ≡ Nothing) × (firstUnknown (wordEnded at word more) ≡ at)
   ended-unknown = by word
     where
       on : (f : Found) → isFound f && true ≡ false → (f ≡ Nothing) × (cond (isFound f) (firstUnknown more) at ≡ at)
       on (Action n) t = absurd (true-false t)
       on Nothing t = (refl, refl)
 
-      by : (w : List ℕ) → allFound (ended at w []) ≡ false → (0 < length w) × (foundOf w ≡ Nothing) × (firstUnknown (ended at w more) ≡ at)
+      by : (w : List ℕ) → allFound (wordEnded at w []) ≡ false → (0 < length w) × (foundOf w ≡ Nothing) × (firstUnknown (wordEnded at w more) ≡ at)
       by [] t = absurd (true-false t)
       by (b ∷ w) t = let o = on (foundOf (b ∷ w)) t in (omega arith, o .0, o .1)
 
@@ -85,7 +85,7 @@ past-letter at word b text k e (inr l) =
     })
 
 -- past a gap that ends a known word
-past-gap : (at : ℕ) (word : List ℕ) (b : ℕ) (text : List ℕ) (k : ℕ) → gap b ≡ true → allFound (ended at word []) ≡ true
+past-gap : (at : ℕ) (word : List ℕ) (b : ℕ) (text : List ℕ) (k : ℕ) → gap b ≡ true → allFound (wordEnded at word []) ≡ true
     → Here (at + length word + 1) [] text k ⊎ Later (at + length word + 1) [] text k → Later at word (b ∷ text) k
 past-gap at word b text k e t (inl h) =
     record {
@@ -94,7 +94,7 @@ past-gap at word b text k e t (inl h) =
       parted = e;
       some = h .some;
       unknown = h .unknown;
-      before = ap allFound (words-gap at word b [] e ∙ ap (ended at word) (words-end _ [])) ∙ t;
+      before = ap allFound (words-gap at word b [] e ∙ ap (wordEnded at word) (words-end _ [])) ∙ t;
     }
 past-gap at word b text k e t (inr l) =
     record {
@@ -109,7 +109,7 @@ past-gap at word b text k e t (inr l) =
 locate : (text : List ℕ) (at : ℕ) (word : List ℕ) → Located at word text (wordsFrom at word text)
 locate [] at word =
     rw words-end
-    (λ (f : allFound (ended at word []) ≡ false).
+    (λ (f : allFound (wordEnded at word []) ≡ false).
     let u = ended-unknown at word [] f in
     inl (record { place = u .2; some = simp append-nil (u .0); unknown = simp append-nil (u .1) }))
 locate (b ∷ text) at word =
@@ -117,13 +117,13 @@ locate (b ∷ text) at word =
     (λ e f.
     let next = at + length word + 1 in
     ⊎-elim
-    (λ (t : allFound (ended at word []) ≡ true).
+    (λ (t : allFound (wordEnded at word []) ≡ true).
     let o = ended-known at word (wordsFrom next [] text) t in
     inr (past-gap at word b text _ e t (rw (o .1) (locate text next [] (sym (o .0) ∙ f)))))
-    (λ (n : allFound (ended at word []) ≡ false).
+    (λ (n : allFound (wordEnded at word []) ≡ false).
     let u = ended-unknown at word (wordsFrom next [] text) n in
     inl (record { place = u .2; some = simp (e, append-nil) (u .0); unknown = simp (e, append-nil) (u .1) }))
-    (either (allFound (ended at word []))))
+    (either (allFound (wordEnded at word []))))
     (λ e f. past-letter at word b text _ e (locate text at (word ++ (b ∷ [])) f))
 
 -- THE theorem of refusal 5: its offset is the first unknown word's start

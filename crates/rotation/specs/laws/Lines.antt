@@ -14,7 +14,7 @@ use Rattle.action.specs.laws.Names.{name-short}
 use Rattle.action.specs.declared.texts.Text.the-variants.{Name}
 use Rattle.rotation.specs.Gaps.{newline}
 use Rattle.rotation.specs.Lines.{lineOf, listTextOf}
-use Rattle.rotation.specs.inner.Lines.{lineMost}
+use Rattle.rotation.specs.inner.Lines.{nameLineMost}
 
 -- ---- one line
 
@@ -22,7 +22,7 @@ pub line-length : (n : ℕ) → length (lineOf n) ≡ length (textOf Name n) + 1
 unfolding lineOf textOf
 line-length n = length-append (nameOf n) (newline ∷ [])
 
-pub line-short : (n : ℕ) → n < actions → length (lineOf n) ≤ lineMost
+pub line-short : (n : ℕ) → n < actions → length (lineOf n) ≤ nameLineMost
 unfolding textOf
 line-short n h = omega (arith, line-length n, name-short n h)
 

@@ -17,7 +17,7 @@ use Rattle.action.specs.Names.{nameOf, foundOf}
 use Rattle.action.specs.laws.Names.{name-long, own-name}
 use Rattle.action.specs.declared.names.Found.the-variants.{Action}
 use Rattle.rotation.specs.Gaps.{newline, gap, letter}
-use Rattle.rotation.specs.Words.{Word, ended, wordsFrom, wordsOf, numbers, allFound, actionsIn, wordsKnown}
+use Rattle.rotation.specs.Words.{Word, wordEnded, wordsFrom, wordsOf, numbers, allFound, actionsIn, wordsKnown}
 use Rattle.rotation.specs.laws.Words.{words-gap, words-letter, words-end}
 use Rattle.rotation.specs.Lines.{lineOf, listTextOf}
 
@@ -42,7 +42,7 @@ letters-passed (b ∷ word) text at before p =
     words-letter at before b (word ++ text) e ∙ letters-passed word text at (before ++ (b ∷ [])) (and-right (letter b) (letters word) p) ∙ simp append-assoc)
     (either (gap b))
 
-ended-some : (at : ℕ) (word : List ℕ) (more : List Word) → 0 < length word → ended at word more ≡ record { at = at; found = foundOf word } ∷ more
+ended-some : (at : ℕ) (word : List ℕ) (more : List Word) → 0 < length word → wordEnded at word more ≡ record { at = at; found = foundOf word } ∷ more
 ended-some at [] more h = absurd (omega arith)
 ended-some at (b ∷ word) more h = refl
 

@@ -18,13 +18,13 @@ use Rattle.action.specs.laws.Names.{found-known}
 use Rattle.action.specs.declared.names.Found.{Found}
 use Rattle.action.specs.declared.names.Found.the-variants.{Action, Nothing}
 use Rattle.rotation.specs.Gaps.{gap, letter}
-use Rattle.rotation.specs.Words.{Word, ended, wordsFrom, wordsOf, listed, numbers, actionsIn}
+use Rattle.rotation.specs.Words.{Word, wordEnded, wordsFrom, wordsOf, foundThen, numbers, actionsIn}
 use Rattle.laws.specs.Lists.{front}
 
 -- ---- one byte more: a gap ends the word, a letter goes on with it
 
 pub words-cases : (P : List Word → Type 0) (at : ℕ) (word : List ℕ) (b : ℕ) (text : List ℕ)
-    → (gap b ≡ true → P (ended at word (wordsFrom (at + length word + 1) [] text)))
+    → (gap b ≡ true → P (wordEnded at word (wordsFrom (at + length word + 1) [] text)))
     → (gap b ≡ false → P (wordsFrom at (word ++ (b ∷ [])) text))
     → P (wordsFrom at word (b ∷ text))
 unfolding wordsFrom
@@ -32,7 +32,7 @@ words-cases P at word b text f g =
     ⊎-elim (λ (e : gap b ≡ true). rw e (f e)) (λ (e : gap b ≡ false). rw e (g e)) (either (gap b))
 
 pub words-gap : (at : ℕ) (word : List ℕ) (b : ℕ) (text : List ℕ) → gap b ≡ true
-    → wordsFrom at word (b ∷ text) ≡ ended at word (wordsFrom (at + length word + 1) [] text)
+    → wordsFrom at word (b ∷ text) ≡ wordEnded at word (wordsFrom (at + length word + 1) [] text)
 unfolding wordsFrom
 words-gap at word b text e = rw e
 
@@ -41,7 +41,7 @@ pub words-letter : (at : ℕ) (word : List ℕ) (b : ℕ) (text : List ℕ) → 
 unfolding wordsFrom
 words-letter at word b text e = rw e
 
-pub words-end : (at : ℕ) (word : List ℕ) → wordsFrom at word [] ≡ ended at word []
+pub words-end : (at : ℕ) (word : List ℕ) → wordsFrom at word [] ≡ wordEnded at word []
 unfolding wordsFrom
 words-end at word = refl
 
@@ -61,17 +61,17 @@ gaps-passed (b ∷ text) at = by (gap b) refl (gaps-passed text)
 
 letters-taken : (text : List ℕ) (at : ℕ) (word : List ℕ)
     → wordsFrom at word text
-    ≡ ended at (word ++ take (front letter text) text) (wordsFrom (at + length (word ++ take (front letter text) text)) [] (drop (front letter text) text))
+    ≡ wordEnded at (word ++ take (front letter text) text) (wordsFrom (at + length (word ++ take (front letter text) text)) [] (drop (front letter text) text))
 unfolding wordsFrom
 letters-taken [] at word = rw append-nil
 letters-taken (b ∷ text) at word = by (gap b) refl (letters-taken text at (word ++ (b ∷ [])))
   where
     by : (g : Bool) → gap b ≡ g
         → wordsFrom at (word ++ (b ∷ [])) text
-        ≡ ended at ((word ++ (b ∷ [])) ++ take (front letter text) text)
+        ≡ wordEnded at ((word ++ (b ∷ [])) ++ take (front letter text) text)
         (wordsFrom (at + length ((word ++ (b ∷ [])) ++ take (front letter text) text)) [] (drop (front letter text) text))
         → wordsFrom at word (b ∷ text)
-        ≡ ended at (word ++ take (front letter (b ∷ text)) (b ∷ text))
+        ≡ wordEnded at (word ++ take (front letter (b ∷ text)) (b ∷ text))
         (wordsFrom (at + length (word ++ take (front letter (b ∷ text)) (b ∷ text))) [] (drop (front letter (b ∷ text)) (b ∷ text)))
     by true e more = simp (e, append-nil, add-zero)
     by false e more = simp e (simp append-assoc at more)
@@ -89,7 +89,7 @@ one-word (b ∷ text) at h e =
 
 -- ---- a gap parts the words before it from those after it
 
-ended-append : (at : ℕ) (word : List ℕ) (more rest : List Word) → ended at word (more ++ rest) ≡ ended at word more ++ rest
+ended-append : (at : ℕ) (word : List ℕ) (more rest : List Word) → wordEnded at word (more ++ rest) ≡ wordEnded at word more ++ rest
 ended-append at [] more rest = refl
 ended-append at (b ∷ word) more rest = refl
 
@@ -97,13 +97,13 @@ pub words-seam : (before : List ℕ) (at : ℕ) (word : List ℕ) (b : ℕ) (tex
     → wordsFrom at word (before ++ (b ∷ text)) ≡ wordsFrom at word before ++ wordsFrom (at + length word + length before + 1) [] text
 words-seam [] at word b text e =
     let n : at + length word + 1 ≡ at + length word + 0 + 1 = omega arith in
-    words-gap at word b text e ∙ ended-append at word [] _ ∙ rw words-end (ap (λ (k : ℕ). ended at word [] ++ wordsFrom k [] text) n)
+    words-gap at word b text e ∙ ended-append at word [] _ ∙ rw words-end (ap (λ (k : ℕ). wordEnded at word [] ++ wordsFrom k [] text) n)
 words-seam (x ∷ before) at word b text e =
     ⊎-elim
     (λ (g : gap x ≡ true).
     let n : at + length word + 1 + 0 + length before + 1 ≡ at + length word + suc (length before) + 1 = omega arith in
     words-gap at word x (before ++ (b ∷ text)) g
-    ∙ ap (ended at word)
+    ∙ ap (wordEnded at word)
     (words-seam before (at + length word + 1) [] b text e
     ∙ ap (λ (k : ℕ). wordsFrom (at + length word + 1) [] before ++ wordsFrom k [] text) n)
     ∙ ended-append at word _ _
@@ -118,11 +118,11 @@ words-seam (x ∷ before) at word b text e =
 
 -- ---- how many there are
 
-listed-most : (found : Found) (rest : List ℕ) → length (listed found rest) ≤ suc (length rest)
+listed-most : (found : Found) (rest : List ℕ) → length (foundThen found rest) ≤ suc (length rest)
 listed-most (Action n) rest = omega arith
 listed-most Nothing rest = omega arith
 
-ended-most : (at : ℕ) (word : List ℕ) (more : List Word) → length (numbers (ended at word more)) ≤ length word + length (numbers more)
+ended-most : (at : ℕ) (word : List ℕ) (more : List Word) → length (numbers (wordEnded at word more)) ≤ length word + length (numbers more)
 ended-most at [] more = omega arith
 ended-most at (b ∷ word) more = omega (arith, listed-most (foundOf (b ∷ word)) (numbers more))
 
@@ -142,12 +142,12 @@ actions-most text = omega (arith, words-most text 0 [])
 abbrev Known : List Word → Type 0
 Known words = length (numbers words) ≤ knownFront (numbers words)
 
-ended-known : (at : ℕ) (word : List ℕ) (more : List Word) → Known more → Known (ended at word more)
+ended-known : (at : ℕ) (word : List ℕ) (more : List Word) → Known more → Known (wordEnded at word more)
 unfolding knownFront
 ended-known at [] more h = h
 ended-known at (b ∷ word) more h = by (foundOf (b ∷ word)) refl
   where
-    by : (f : Found) → foundOf (b ∷ word) ≡ f → length (listed f (numbers more)) ≤ knownFront (listed f (numbers more))
+    by : (f : Found) → foundOf (b ∷ word) ≡ f → length (foundThen f (numbers more)) ≤ knownFront (foundThen f (numbers more))
     by (Action n) e = simp (lt-ltb n actions (found-known (b ∷ word) e)) (omega arith)
     by Nothing e = h
 

@@ -33,7 +33,8 @@ use Rattle.simulator.specs.Replay.{goesOn, stopOf, slipOf, replayFrom, r
 use Rattle.simulator.specs.laws.Replay.{replay-on}
 use Rattle.simulator.specs.Alone.{stepsIn}
 use Rattle.simulator.specs.laws.Alone.{prices-charged}
-use Rattle.simulator.specs.Promise.{after, AllKnown, EachLegal, chargesOf, AfterFirst, Longest, Promise}
+use Rattle.simulator.specs.Promise.{after, EachLegal, chargesOf, AfterFirst, Longest, Promise}
+use Rattle.simulator.specs.inner.Known.{AllKnown}
 
 -- ---- known actions
 

@@ -26,9 +26,11 @@ use Rattle.score.specs.declared.result.CraftResult.{CraftResult}
 use Rattle.score.specs.declared.result.CraftResult.the-variants as R
 use Rattle.simulator.specs.declared.replay.Replay.{Replay}
 use Rattle.simulator.specs.Replay.{replayOf}
-use Rattle.simulator.specs.Promise.{AllKnown, EachLegal, Promise}
+use Rattle.simulator.specs.Promise.{EachLegal, Promise}
+use Rattle.simulator.specs.inner.Known.{AllKnown}
 use Rattle.simulator.specs.laws.Promise.{all-known, take-known, promised}
-use Rattle.transcript.specs.Transcript.{rowOf, rowsOf, Played, finishedOf, resultTextOf, lastOf, reportedOf, transcriptOf}
+use Rattle.transcript.specs.Transcript.{rowOf, rowsOf, finishedOf, resultTextOf, lastLineOf, reportedOf, transcriptOf}
+use Rattle.transcript.specs.inner.Played.{Played}
 use Rattle.transcript.specs.Transcript.{rowMost, resultMost, lastMost, transcriptMost}
 
 -- ---- a part of known actions that are each legal where they stand
@@ -93,15 +95,15 @@ pub result-put : {result found : CraftResult} {out after : List ℕ} {at r : ℕ
     → Put out at (resultTextOf result) r after × (r ≤ at + resultMost)
 result-put {found = found} e p = (put-as (sym (ap resultTextOf e)) p, omega (arith, p .next, result-short found))
 
-pub last-short : (result : CraftResult) (executed listed : ℕ) → length (lastOf result executed listed) ≤ lastMost
-unfolding lastOf
+pub last-short : (result : CraftResult) (executed listed : ℕ) → length (lastLineOf result executed listed) ≤ lastMost
+unfolding lastLineOf
 last-short result executed listed = simp length-append (omega (arith, result-short result, decimal-most executed, decimal-most listed))
 
 -- ---- the whole text of a list's replay
 
 module _ (c : CraftContext) (list : List ℕ) where
   pub transcript-is : {s : CraftState} {r : Replay} → s ≡ startOf c → r ≡ replayOf c plain list
-      → rowOf c s ++ rowsOf c s (take (r .executed) list) ++ lastOf (r .result) (r .executed) (length list) ≡ transcriptOf c list
+      → rowOf c s ++ rowsOf c s (take (r .executed) list) ++ lastLineOf (r .result) (r .executed) (length list) ≡ transcriptOf c list
   unfolding reportedOf transcriptOf
   transcript-is e f = rw (e, f)
 

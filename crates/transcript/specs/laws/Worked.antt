@@ -24,7 +24,7 @@ use Rattle.moves.specs.Moves.{strictlyOf, allowedOf, movesOf}
 use Rattle.score.specs.Score.{scoreOf}
 use Rattle.score.specs.Result.{judgedBy}
 use Rattle.simulator.specs.Replay.{stopOf, slipOf, replayFrom, replayOf}
-use Rattle.transcript.specs.Transcript.{rowOf, rowsOf, finishedOf, resultTextOf, lastOf, reportedOf, transcriptOf}
+use Rattle.transcript.specs.Transcript.{rowOf, rowsOf, finishedOf, resultTextOf, lastLineOf, reportedOf, transcriptOf}
 
 abbrev craft : CraftContext
 craft =
@@ -55,7 +55,7 @@ pub example : transcriptOf craft (Veneration ∷ BasicSynthesis ∷ BasicSynthes
     ++ line "  150/  200 progress |     0/    0 quality | 30/40 durability |  82/100 cp"
     ++ line "  300/  200 progress |     0/    0 quality | 20/40 durability |  82/100 cp"
     ++ line "finished 3F000000 executed 3 of 3"
-unfolding transcriptOf reportedOf rowOf rowsOf lastOf resultTextOf finishedOf
+unfolding transcriptOf reportedOf rowOf rowsOf lastLineOf resultTextOf finishedOf
     displayOf shareOf signedShareOf rightOf decimalOf signedOf hexOf
     replayOf replayFrom stopOf slipOf startOf movesOf allowedOf strictlyOf ownRule strictRule has collect elem
     executedOf begunOf progressedOf improvedOf wornOf refreshedOf paidOf combinedOf timedOf affectedOf tickedOf effectOf actionOf

@@ -21,7 +21,8 @@ use Rattle.tree.specs.declared.grow.Inserted.{Inserted}
 use Rattle.tree.specs.Tree.{isSound, plantedOf, insertedOf}
 use Rattle.tree.specs.Refusals.{treeTest, nodeTest, newCount, newTests, insertTests}
 use Rattle.tree.specs.laws.Kept.{new-kept, insert-kept}
-use Rattle.tree.specs.Grow.{isPlanted, isInserted, PlantAnswer, InsertAnswer, Changes, Plants, Inserts}
+use Rattle.tree.specs.Grow.{isPlanted, isInserted, Changes, Plants, Inserts}
+use Rattle.tree.specs.inner.Grow.{PlantAnswer, InsertAnswer}
 
 -- ---- the records, from the answer
 

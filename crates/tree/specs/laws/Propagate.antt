@@ -26,7 +26,8 @@ use Rattle.tree.specs.inner.Sound.{SoundTree}
 use Rattle.tree.specs.laws.Tree.{tree-of, tree-falls}
 use Rattle.tree.specs.Refusals.{treeTest, nodeTest, aboveTest, visitsTest, backTests}
 use Rattle.tree.specs.laws.Kept.{back-kept}
-use Rattle.tree.specs.Back.{Climbs, Reaches, Surveys, endTests, wayTests, isPassed, answerOf, Propagates}
+use Rattle.tree.specs.Back.{Propagates}
+use Rattle.tree.specs.inner.Back.{Climbs, Reaches, Surveys, endTests, wayTests, isPassed, answerOf}
 
 -- ---- a test that passed or did not
 

@@ -14,7 +14,7 @@ use Rattle.rotation.specs.Words.{actionsIn}
 use Rattle.rotation.specs.declared.words.Counted.the-variants.{Words}
 use Rattle.rotation.specs.laws.Count.{words-known, words-count, words-pass, words-stop, stop-within}
 use Rattle.transcript.specs.Transcript.{transcriptOf}
-use Rattle.crafty.specs.Program.{RendersWords}
+use Rattle.crafty.specs.inner.Program.{RendersWords}
 use Rattle.crafty.specs.declared.room.Written.the-variants.{Length}
 use Rattle.crafty.proofs.program.render_words.Statement.{statement}
 use Rattle.crafty.proofs.program.render_words.Tie as tie

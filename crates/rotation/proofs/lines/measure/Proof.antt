@@ -6,13 +6,13 @@ use native.Mathlib.Omega.{arith}
 use lib.ListN.{length, drop}
 use Rattle.action.specs.laws.Known.{known-each}
 use Rattle.rotation.specs.Lines.{listTextOf}
-use Rattle.rotation.specs.inner.Lines.{lineMost}
+use Rattle.rotation.specs.inner.Lines.{nameLineMost}
 use Rattle.rotation.specs.laws.Lines.{lines-length, lines-end}
 use Rattle.rotation.proofs.lines.measure.Statement.{statement}
 use Rattle.rotation.proofs.lines.measure.Tie as tie
 
 abbrev Inv-loop : tie.InvT-loop
-Inv-loop list i₀ need₀ i need = (i ≤ length list) × (need ≤ lineMost * i) × (need + length (listTextOf (drop i list)) ≡ length (listTextOf list))
+Inv-loop list i₀ need₀ i need = (i ≤ length list) × (need ≤ nameLineMost * i) × (need + length (listTextOf (drop i list)) ≡ length (listTextOf list))
 
 abbrev μ-loop : tie.MeasureT-loop
 μ-loop list i₀ need₀ i need = length list - i

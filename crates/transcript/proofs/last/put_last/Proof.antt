@@ -2,13 +2,13 @@
 -- Assumes nothing.
 use Rattle.text.specs.laws.Over.{then, put-as}
 use Rattle.text.specs.laws.Lengths.{right-none}
-use Rattle.transcript.specs.Transcript.{lastOf}
+use Rattle.transcript.specs.Transcript.{lastLineOf}
 use borrow.Author.Needs.{needs}
 use Rattle.transcript.proofs.last.put_last.Statement.{statement}
 use Rattle.transcript.proofs.last.put_last.Tie as tie
 
 returns : tie.Need-returns
-unfolding lastOf
+unfolding lastLineOf
 returns c =
     let end = c .before .before in
     let listed = end .before .before .before .before in

@@ -9,7 +9,8 @@ use Rattle.text.specs.laws.Over.{over-none}
 use Rattle.craft_state.specs.Inside.{CraftIn}
 use Rattle.moves.specs.Modes.{plain}
 use Rattle.moves.specs.laws.Moves.{legal-playable, legal-keeps}
-use Rattle.transcript.specs.Transcript.{rowMost, rowsOf, Played}
+use Rattle.transcript.specs.Transcript.{rowMost, rowsOf}
+use Rattle.transcript.specs.inner.Played.{Played}
 use Rattle.transcript.specs.laws.Transcript.{next-known, next-legal, rest-played, rows-over, rows-count, rows-end, rows-short}
 use Rattle.transcript.proofs.rows.put_rows.Statement.{statement}
 use Rattle.transcript.proofs.rows.put_rows.Tie as tie

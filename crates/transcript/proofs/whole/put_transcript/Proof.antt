@@ -12,7 +12,7 @@ use Rattle.craft_state.specs.Inside.{CraftIn}
 use Rattle.craft_state.specs.laws.Inside.{start-in}
 use Rattle.moves.specs.Modes.{plain}
 use Rattle.simulator.specs.Promise.{Promise}
-use Rattle.transcript.specs.Transcript.{Played}
+use Rattle.transcript.specs.inner.Played.{Played}
 use Rattle.transcript.specs.laws.Transcript.{transcript-is, kept, executed-played}
 use borrow.Author.Needs.{needs}
 use Rattle.transcript.proofs.whole.put_transcript.Statement.{statement}

@@ -2,7 +2,7 @@
 -- Assumes nothing.
 use mathlib.Core.Path.{sym, ap}
 use borrow.Author.Needs.{needs}
-use Rattle.tree.specs.Back.{answerOf}
+use Rattle.tree.specs.inner.Back.{answerOf}
 use Rattle.tree.proofs.back.answer.Statement.{statement}
 use Rattle.tree.proofs.back.answer.Tie as tie
 

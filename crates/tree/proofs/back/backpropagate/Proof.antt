@@ -2,7 +2,7 @@
 -- Assumes nothing.
 use lib.Ieee.{Float}
 use contract.Running.{tablesOf}
-use Rattle.tree.specs.Back.{isPassed}
+use Rattle.tree.specs.inner.Back.{isPassed}
 use Rattle.tree.specs.laws.Propagate.{back-reaches-target, back-done, back-refused}
 use Rattle.walks.proofs.Walking.{_≡_, refl, sym, _∙_, ℕ, true, tables, _$_, !, of-opd, no-more, cited, opd, _&_, sets, lands-in, lands-last, returns, guards, reborrows, then, last, calls-mut, calls-shared, calls-plain, mut-proved}
 use Rattle.tree.proofs.TypesBack.{is-passed′, answer′, touch-path′, check-back′, backpropagate′}

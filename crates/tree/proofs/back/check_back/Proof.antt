@@ -2,7 +2,7 @@
 -- Assumes nothing.
 use lib.Ieee.{Float}
 use contract.Running.{tablesOf}
-use Rattle.tree.specs.Back.{isPassed}
+use Rattle.tree.specs.inner.Back.{isPassed}
 use Rattle.tree.specs.laws.Propagate.{back-stops, back-climbs, back-goes-on}
 use Rattle.walks.proofs.Walking.{_≡_, refl, sym, _∙_, ℕ, true, not-true, not-false, tables, _$_, !, of-opd, un, no-more, cited, opd, _&_, sets, lands-in, returns, guards, then, calls-shr, calls-plain, shr-proved}
 use Rattle.tree.proofs.TypesGrow.{is-sound′}

@@ -5,7 +5,7 @@ use contract.Running.{tablesOf}
 use Rattle.tree.specs.declared.node.Node.{Node}
 use Rattle.tree.specs.declared.climb.Survey.{Survey}
 use Rattle.tree.specs.Node.{isFull}
-use Rattle.tree.specs.Back.{surveyOf, Surveys}
+use Rattle.tree.specs.inner.Back.{surveyOf, Surveys}
 use Rattle.tree.proofs.Turns.{Testing, test-starts, test-turns, test-falls, test-ends}
 use Rattle.walks.proofs.Walking.{refl, sym, ap, _∙_, subst, ℕ, _<_, _^_, arith, Bool, false, List, [], _∷_, ltb, ltb-true, ltb-false, tables, _$_, !, false-lit, of-opd, bin, no-more, cited, usize′, bool′, none, has, holding, env, opd, part, _&_, sets, sets-last, lands-in, keeps, returns, whiles, fat, Shr, Tok, then, calls-shr, calls-plain, shr-proved}
 use Rattle.tree.proofs.Types.{node-at′}

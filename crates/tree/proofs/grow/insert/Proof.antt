@@ -9,7 +9,8 @@ use Rattle.tree.specs.declared.grow.Inserted.{Inserted}
 use Rattle.tree.specs.Tree.{isSound}
 use Rattle.tree.specs.Refusals.{treeTest, nodeTest}
 use Rattle.tree.specs.laws.Tree.{tree-of}
-use Rattle.tree.specs.Grow.{isInserted, InsertAnswer}
+use Rattle.tree.specs.Grow.{isInserted}
+use Rattle.tree.specs.inner.Grow.{InsertAnswer}
 use Rattle.tree.specs.laws.Grow.{inserts, inserted-passed, inserted-room}
 use Rattle.walks.proofs.Walking.{_≡_, refl, sym, ap, _∙_, subst, ℕ, _+_, _<_, _≤_, _^_, arith, List, Bool, true, false, ltb-true, not-true, not-false, tables, _$_, !, of-opd, un, no-more, cited, opd, part, _&_, sets, lands-in, returns, guards, reborrows, then, calls-mut, calls-shared, calls-plain, mut-proved}
 use Rattle.tree.proofs.Types.{put-node′}

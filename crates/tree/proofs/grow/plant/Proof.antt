@@ -3,7 +3,8 @@
 use lib.ListN.{length, set}
 use contract.Running.{tablesOf}
 use Rattle.tree.specs.declared.node.Node.{Node}
-use Rattle.tree.specs.Grow.{isPlanted, PlantAnswer}
+use Rattle.tree.specs.Grow.{isPlanted}
+use Rattle.tree.specs.inner.Grow.{PlantAnswer}
 use Rattle.tree.specs.laws.Grow.{plants, planted-room}
 use Rattle.walks.proofs.Walking.{_≡_, refl, sym, ap, _∙_, subst, ℕ, true, false, lit<, not-true, not-false, tables, _$_, !, lit, of-opd, un, no-more, cited, opd, part, _&_, sets, lands-in, returns, guards, reborrows, then, calls-mut, calls-plain, mut-proved}
 use Rattle.tree.proofs.Types.{put-node′}
