@@ -2,8 +2,8 @@
  * builds for x86-64 Linux. It keeps nothing between calls, allocates nothing, and any number of threads may call it.
  * Of C's library it needs memcpy and memset. A call takes up to some 100 KB of stack.
  *
- * What the host owes: a pointer and a length are a run of that many bytes, numbers or records that stays there during
- * the call; what is lent to be written is used by nobody else meanwhile, and does not overlap what is read. Where the
+ * What the host owes: a pointer and a length are a run of that many bytes, numbers or records, aligned as C aligns
+ * them, that stays there during the call; what is lent to be written is used by nobody else meanwhile, and does not overlap what is read. Where the
  * length is 0 nothing is read or written, and the pointer may be null. And it owes the floating-point environment in
  * which a program starts: round to nearest, no flush to zero and no denormals are zero, no exception unmasked. Beyond
  * that every function takes any numbers and any bytes.

@@ -54,6 +54,7 @@ static void check_lists(void)
     expect_text(crafty_macro_time(list, 2), CRAFTY_SUCCESS, 6, "", "a list is timed");
     expect_text(crafty_macro_time(long_list, 65536), CRAFTY_SUCCESS, 196608, "", "the longest list is timed");
     expect_text(crafty_macro_time(long_list, 65537), CRAFTY_TOO_LONG, 0, "", "refusal 13 of a list timed");
+    expect_text(crafty_macro_time(list, 3), CRAFTY_UNKNOWN_ACTION, 2, "", "refusal 3 of a list timed");
 }
 
 static const char input[] =
@@ -71,25 +72,36 @@ static void check_texts(void)
 {
     size_t size = strlen(output);
     const char *refused = "refused 12\n";
+    const char *outside = "50 50 100 100 256 200 0 0 40 100 0 33 0 0 0\n";
+    static const uint8_t long_text[65537];
 
     expect_text(crafty_replay_text(bytes(input), strlen(input), room, size), CRAFTY_SUCCESS, size, output, "a text is replayed");
     expect_text(crafty_replay_text(bytes(input), strlen(input), room, size - 1), CRAFTY_NO_ROOM, size, "", "refusal 6 of a text");
+    expect_text(crafty_replay_text(long_text, 65537, room, ROOM), CRAFTY_TOO_LONG, 0, "", "refusal 13 of a text");
+    expect_text(crafty_replay_text(long_text, 65536, room, ROOM), CRAFTY_MALFORMED_LINE, 0, "", "refusal 12 of the longest text");
     expect_text(crafty_replay_text(bytes(input), 41, room, ROOM), CRAFTY_MALFORMED_LINE, 0, "", "refusal 12");
+    expect_text(crafty_replay_text(bytes(outside), strlen(outside), room, ROOM), CRAFTY_OUTSIDE_LIMITS, 0, "", "refusal 1 of a text");
     expect_text(crafty_replay_text(bytes(input), 45, room, ROOM), CRAFTY_UNKNOWN_WORD, 42, "", "refusal 5 of a text");
     expect_text(crafty_print(bytes(input), strlen(input), room, ROOM), CRAFTY_SUCCESS, size, output, "a text is printed");
     expect_text(crafty_print(bytes(input), 41, room, 11), CRAFTY_SUCCESS, 11, refused, "a refusal is printed");
     expect_text(crafty_print(bytes(input), 41, room, 10), CRAFTY_NO_ROOM, 11, "", "refusal 6 of a refusal printed");
 }
 
+static crafty_answer replay_in(bool strict, uint32_t step_max, const uint8_t *list, size_t length, uint32_t *out, size_t numbers)
+{
+    return crafty_replay(50, 50, 100, 100, step_max, 200, 0, 0, 40, 100, 0, 33, 0, 0, 0, strict, list, length, out, numbers);
+}
+
 static crafty_answer replay(uint32_t step_max, const uint8_t *list, size_t length, uint32_t *out, size_t numbers)
 {
-    return crafty_replay(50, 50, 100, 100, step_max, 200, 0, 0, 40, 100, 0, 33, 0, 0, 0, false, list, length, out, numbers);
+    return replay_in(false, step_max, list, length, out, numbers);
 }
 
 static void check_replays(void)
 {
     static const uint8_t list[] = { 5, 0, 0 };
     static const uint8_t unknown[] = { 5, 31 };
+    static const uint8_t again[] = { 5, 5 };
     static const uint32_t finished[CRAFTY_NUMBERS] = { CRAFTY_FINISHED, 0x3F000000, 3, 0, 4, 300, 0, 20, 82, 0, 0, 0, 0, 0, 0, 0, 0, 0, 2, 0, 0 };
     uint32_t out[CRAFTY_NUMBERS + 1];
     uint32_t before[CRAFTY_NUMBERS + 1];
@@ -107,6 +119,12 @@ static void check_replays(void)
     expect(answer.number == CRAFTY_SUCCESS && answer.value == CRAFTY_NUMBERS, "a list is replayed");
     expect(memcmp(out, finished, sizeof finished) == 0, "the numbers of a replay");
     expect(out[CRAFTY_NUMBERS] == before[CRAFTY_NUMBERS], "no number further");
+
+    /* a second Veneration under the first is legal in plain mode alone */
+    replay(8, again, 2, out, CRAFTY_NUMBERS);
+    expect(out[0] == CRAFTY_CONTINUING && out[2] == 2, "a plain replay");
+    replay_in(true, 8, again, 2, out, CRAFTY_NUMBERS);
+    expect(out[0] == CRAFTY_INVALID_ACTION_FAILURE && out[2] == 1, "a strict replay");
 }
 
 /* ---- trees. Records 1 and 2 are below record 0, record 3 is below 1, and record 4 is not used. */
