@@ -18,10 +18,12 @@ use Rattle.craft_state.specs.declared.state.Perfection.the-variants as P
 use Rattle.craft_state.specs.Start.{noBuffs}
 use Rattle.moves.specs.Rules.{ownRule, strictRule}
 use Rattle.moves.specs.Moves.{strictlyOf, allowedOf, movesOf}
+use Rattle.moves.specs.Modes.{plain}
 use Rattle.score.specs.declared.result.CraftResult.{CraftResult}
 use Rattle.score.specs.Score.{scoreOf}
 use Rattle.score.specs.Result.{judgedBy}
 use Rattle.simulator.specs.declared.replay.Replay.{Replay}
+use Rattle.transcript.specs.laws.Worked.{craft}
 use Rattle.crafty.specs.Verdicts.{Verdict, verdictIn}
 use Rattle.crafty.specs.States.{resulted, verdictsOf, HasResult}
 use Rattle.crafty.specs.Replays.{replayed, verdictsIn}
@@ -39,27 +41,6 @@ pub replay-verdict : {tests : List Test} {replay : Replay} {r : Replayed} → Sa
 replay-verdict {tests} {replay} s = ap verdictsIn (s .same) ∙ judged-map verdictsIn R.Refused (R.Report replay) tests
 
 -- ---- one state of each result
-
--- eight steps, 200 of progress, and nothing else asked; `pool` are the player's actions
-abbrev craft : ℕ → CraftContext
-craft pool =
-    record {
-      «player_job_level» = 50;
-      «recipe_job_level» = 50;
-      «base_progress_factor» = 100;
-      «base_quality_factor» = 100;
-      «step_max» = 8;
-      «progress_target» = 200;
-      «starting_quality» = 0;
-      «quality_target» = 0;
-      «durability_max» = pos 40;
-      «cp_max» = 100;
-      «is_expert» = false;
-      «action_pool» = record { 0 = pool };
-      «player_is_specialist» = false;
-      «use_manipulation» = false;
-      «use_delineation» = false;
-    }
 
 abbrev at : ℕ → ℕ → ℤ → CraftState
 at step progress durability =
@@ -90,7 +71,7 @@ toldBy v = record { number = v .number; scores = map bits (v .scores) }
 -- of every answer of the entry `result`, plainly
 abbrev Tells : CraftContext → CraftState → ℕ → List ℕ → Type 0
 Tells context state number scores =
-    (r : Judged) → HasResult context state (record { strict = false }) r → map toldBy (verdictsOf r) ≡ record { number = number; scores = scores } ∷ []
+    (r : Judged) → HasResult context state plain r → map toldBy (verdictsOf r) ≡ record { number = number; scores = scores } ∷ []
 
 -- no action is in the pool, and action 0 alone
 abbrev none : ℕ

@@ -26,8 +26,9 @@ use Rattle.score.specs.Result.{judgedBy}
 use Rattle.simulator.specs.Replay.{stopOf, slipOf, replayFrom, replayOf}
 use Rattle.transcript.specs.Transcript.{rowOf, rowsOf, finishedOf, resultTextOf, lastLineOf, reportedOf, transcriptOf}
 
-abbrev craft : CraftContext
-craft =
+-- eight steps, 200 of progress, and nothing else asked; `pool` are the player's actions
+abbrev pub craft : ℕ → CraftContext
+craft pool =
     record {
       «player_job_level» = 50;
       «recipe_job_level» = 50;
@@ -40,7 +41,7 @@ craft =
       «durability_max» = pos 40;
       «cp_max» = 100;
       «is_expert» = false;
-      «action_pool» = record { 0 = 33 };
+      «action_pool» = record { 0 = pool };
       «player_is_specialist» = false;
       «use_manipulation» = false;
       «use_delineation» = false;
@@ -49,7 +50,7 @@ craft =
 abbrev line : String → List ℕ
 line text = bytes text ++ bytes "\n"
 
-pub example : transcriptOf craft (Veneration ∷ BasicSynthesis ∷ BasicSynthesis ∷ [])
+pub example : transcriptOf (craft 33) (Veneration ∷ BasicSynthesis ∷ BasicSynthesis ∷ [])
     ≡ line "    0/  200 progress |     0/    0 quality | 40/40 durability | 100/100 cp"
     ++ line "    0/  200 progress |     0/    0 quality | 40/40 durability |  82/100 cp"
     ++ line "  150/  200 progress |     0/    0 quality | 30/40 durability |  82/100 cp"
