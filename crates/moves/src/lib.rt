@@ -5,7 +5,6 @@ mod mode;
 mod own;
 mod strict;
 
-pub use candidate::allows;
 pub use legal::has_ended;
 pub use legal::is_legal;
 pub use legal::legal_moves;

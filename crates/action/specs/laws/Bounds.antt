@@ -12,7 +12,7 @@ use Rattle.action.specs.Limits.{progressMost, qualityMost, wearMost, pri
 use Rattle.action.specs.Known.{actions}
 use Rattle.action.specs.Amount.{AtMost, AtLeast}
 use Rattle.action.specs.Table.{actionOf, attributesOf}
-use Rattle.action.specs.Bounds.{RowBounds}
+use Rattle.action.specs.Bounds.{RowBounds, RowsIn}
 use Rattle.action.specs.Price.{priceOf}
 use Rattle.action.specs.declared.table.Amount.{Amount}
 use Rattle.action.specs.declared.table.Amount.the-variants.{Of, Nothing}
@@ -46,6 +46,9 @@ rows-bounded n h =
       advanced = λ e. subst (λ (k : ℕ). AtLeast discountPrice (attributesOf k .«cp_cost»)) (sym e) (lit≤ tt);
       shape = record { progress = refl; quality = refl; durability = refl; price = refl };
     }
+
+pub table-in : RowsIn attributesOf
+table-in = record { row = rows-bounded }
 
 -- a discount is never a surcharge
 module _ {n : ℕ} {row : Attributes} (bounds : RowBounds n row) {base : ℕ} (cost : row .«cp_cost» ≡ Of base) where
