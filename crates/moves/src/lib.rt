@@ -3,6 +3,7 @@ mod candidate;
 mod legal;
 mod mode;
 mod own;
+mod sets;
 mod strict;
 
 pub use candidate::allows;

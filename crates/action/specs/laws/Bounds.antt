@@ -8,7 +8,7 @@ use lib.Dec.{T, leb, leb→le, lit≤, eqb}
 use borrow.Author.Tests.{eqb-true}
 use Rattle.laws.specs.laws.Same.{below, below-at}
 use Rattle.action.specs.Actions as A
-use Rattle.action.specs.Limits.{progressMost, qualityMost, wearMost, priceMost, discountPrice}
+use Rattle.action.specs.Limits.{progressMost, qualityMost, wearMost, priceMost, discountPrice, dearest}
 use Rattle.action.specs.Known.{actions}
 use Rattle.action.specs.Amount.{AtMost, AtLeast}
 use Rattle.action.specs.Table.{actionOf, attributesOf}
@@ -46,6 +46,11 @@ rows-bounded n h =
       advanced = λ e. subst (λ (k : ℕ). AtLeast discountPrice (attributesOf k .«cp_cost»)) (sym e) (lit≤ tt);
       shape = record { progress = refl; quality = refl; durability = refl; price = refl };
     }
+
+-- no price of ours is above the dearest
+pub dearest-most : (n : ℕ) → n < actions → AtMost dearest (attributesOf n .«cp_cost»)
+unfolding actionOf
+dearest-most = each dearest (λ a. a .«cp_cost») tt
 
 -- a discount is never a surcharge
 module _ {n : ℕ} {row : Attributes} (bounds : RowBounds n row) {base : ℕ} (cost : row .«cp_cost» ≡ Of base) where

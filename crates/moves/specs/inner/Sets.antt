@@ -1,0 +1,21 @@
+-- For the contracts of inner functions: the moves by sets, where each rule takes its actions off a set unless it holds.
+-- Assumes nothing.
+use mathlib.Core.Bool.{Bool, not, _&&_, _||_}
+use Prim.Native.Nat.{ℕ}
+use Rattle.laws.specs.Bits.{has}
+use Rattle.action.specs.declared.table.Attributes.{Attributes}
+use Rattle.action_set.specs.Sets.{keepOf}
+use Rattle.craft_context.specs.declared.context.CraftContext.{CraftContext}
+use Rattle.craft_state.specs.declared.state.CraftState.{CraftState}
+use Rattle.moves.specs.Rules.{outsideMemory, outsideVeneration, afterObserve}
+
+-- what a rule over some actions leaves of a set: all where it holds, else the others
+unfoldable pub unlessOf : ℕ → ℕ → Bool → ℕ
+unlessOf set over holds = keepOf (λ n. not (has over n) || holds) set
+
+-- the rules of strict mode by which attributes a candidate has, and by the action before it
+abbrev pub kindRule : CraftContext → CraftState → ℕ → Attributes → Bool
+kindRule c s n row =
+    outsideMemory c s (row .«quality_efficiency»)
+    && outsideVeneration s (row .«progress_efficiency») (row .«quality_efficiency»)
+    && afterObserve s n
