@@ -1,4 +1,5 @@
 // Legal moves, in plain and in strict mode.
+mod amounts;
 mod candidate;
 mod legal;
 mod mode;

@@ -1,9 +1,10 @@
 // The moves of a state at once: the rules of own.rt and strict.rt, an arm to a line, each over the set of its actions.
 ghost use mathlib.Core.Path.{_≡_};
+ghost use Prim.Native.Nat.{_<_};
+ghost use Rattle.laws.specs.Bits.{has};
+ghost use Rattle.action.specs.Known.{actions};
 ghost use Rattle.action.specs.Table.{attributesOf};
 ghost use Rattle.action_set.specs.Sets.{SetIn, keepOf};
-ghost use Prim.Native.Nat.{_<_};
-ghost use Rattle.action.specs.Known.{actions};
 ghost use Rattle.craft_state.specs.Inside.{DurabilityIn};
 ghost use Rattle.moves.specs.Rules.{withstands, ownRule, strictRule};
 ghost use Rattle.moves.specs.inner.Sets.{unlessOf, kindRule};
@@ -94,6 +95,14 @@ pub fn unless(set: u32, over: u32, holds: bool) -> u32
         return set;
     }
     set - (set & over)
+}
+
+// What a set shares with another.
+pub fn within(set: u32, other: u32) -> u32
+    requires { ⌜ SetIn set ⌝ }
+    ensures { λ r. ⌜ (r ≡ keepOf (has other) set) × SetIn r ⌝ }
+{
+    set & other
 }
 
 // Durability is enough for the cost of an action.

@@ -1,8 +1,12 @@
 -- For the contracts of inner functions: the moves by sets, where each rule takes its actions off a set unless it holds.
 -- Assumes nothing.
 use mathlib.Core.Bool.{Bool, not, _&&_, _||_}
-use Prim.Native.Nat.{ℕ}
+use Prim.Native.Nat.{ℕ, _+_}
+use lib.Dec.{leb}
 use Rattle.laws.specs.Bits.{has}
+use Rattle.action.specs.Gain.{progressGainOf}
+use Rattle.action.specs.declared.table.Amount.{Amount}
+use Rattle.action.specs.declared.table.Amount.the-variants.{Of, Nothing}
 use Rattle.action.specs.declared.table.Attributes.{Attributes}
 use Rattle.action_set.specs.Sets.{keepOf}
 use Rattle.craft_context.specs.declared.context.CraftContext.{CraftContext}
@@ -19,3 +23,13 @@ kindRule c s n row =
     outsideMemory c s (row .«quality_efficiency»)
     && outsideVeneration s (row .«progress_efficiency») (row .«quality_efficiency»)
     && afterObserve s n
+
+-- so much of an attribute; none counts 0
+abbrev pub amountOf : Amount → ℕ
+amountOf (Of amount) = amount
+amountOf Nothing = 0
+
+-- with that efficiency progress reaches its target
+abbrev pub finishesBy : CraftContext → CraftState → ℕ → Bool
+finishesBy c s efficiency =
+    leb (c .«progress_target») (s .progress + progressGainOf (c .«base_progress_factor») efficiency (s .buffs .veneration) (s .buffs .«muscle_memory»))
