@@ -1,5 +1,6 @@
 // Legal moves, in plain and in strict mode.
 mod amounts;
+mod at_once;
 mod candidate;
 mod legal;
 mod mode;
@@ -7,6 +8,7 @@ mod own;
 mod sets;
 mod strict;
 
+pub use at_once::moves_at_once;
 pub use candidate::allows;
 pub use legal::has_ended;
 pub use legal::is_legal;

@@ -60,7 +60,7 @@ module _ (c : CraftContext) (s : CraftState) (mode : Mode) where
 
 module _ (c : CraftContext) (s : CraftState) (n : ℕ) (row : Attributes) where
   -- TrainedEye alone, at the first step of a craft that is not expert: its own rule holds
-  eye-own : eyeAlone c s ≡ true → n ≡ A.TrainedEye → ownRule c s n row ≡ true
+  pub eye-own : eyeAlone c s ≡ true → n ≡ A.TrainedEye → ownRule c s n row ≡ true
   unfolding ownRule
   eye-own e k =
       let first = both (eqb (s .step) stepLeast && ltb 0 (c .«quality_target») && not (c .«is_expert»)) (has (c .«action_pool» .0) A.TrainedEye) e .0 in
