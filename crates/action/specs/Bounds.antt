@@ -31,5 +31,5 @@ pub record RowBounds (n : ℕ) (row : Attributes) : Type 0 where
 abbrev pub Rows : Type 0
 Rows = ℕ → Attributes
 
-pub record RowsIn (rows : Rows) : Type 0 where
-  pub row : (n : ℕ) → n < actions → RowBounds n (rows n)
+abbrev pub RowsIn : Rows → Type 0
+RowsIn rows = (n : ℕ) → n < actions → RowBounds n (rows n)

@@ -91,3 +91,6 @@ pub const TRAINED_PERFECTION: u8 = 30;
 
 // How many there are.
 pub const ACTIONS: u8 = 31;
+
+// The dearest price: no action's is above it.
+pub const DEAREST: u32 = 250;

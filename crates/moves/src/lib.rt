@@ -1,10 +1,14 @@
 // Legal moves, in plain and in strict mode.
+mod amounts;
+mod at_once;
 mod candidate;
 mod legal;
 mod mode;
 mod own;
+mod sets;
 mod strict;
 
+pub use at_once::moves_at_once;
 pub use legal::has_ended;
 pub use legal::is_legal;
 pub use legal::legal_moves;

@@ -15,14 +15,14 @@ use craft_state::CraftState;
 use craft_state::Perfection;
 
 // Points for Observe, and for the AdvancedTouch after it.
-const OBSERVE_AND_TOUCH: u32 = 25;
+pub const OBSERVE_AND_TOUCH: u32 = 25;
 
 // Durability lost, from which a mend is worth its price.
-const MASTERS_MEND_FROM: i8 = 25;
+pub const MASTERS_MEND_FROM: i8 = 25;
 
-const IMMACULATE_MEND_ABOVE: i8 = 45;
+pub const IMMACULATE_MEND_ABOVE: i8 = 45;
 
-fn is_unused(perfection: Perfection) -> bool
+pub fn is_unused(perfection: Perfection) -> bool
     ensures { λ r. ⌜ r ≡ isUnused perfection ⌝ }
 {
     match perfection {
@@ -32,7 +32,7 @@ fn is_unused(perfection: Perfection) -> bool
     }
 }
 
-fn no_waste_not(state: CraftState) -> bool
+pub fn no_waste_not(state: CraftState) -> bool
     ensures { λ r. ⌜ r ≡ noWasteNot state ⌝ }
 {
     (state.buffs.waste_not == 0) & (state.buffs.waste_not_ii == 0)
@@ -51,7 +51,7 @@ pub fn on_observe(combo: Combo) -> bool
 }
 
 // Durability is enough for the cost.
-fn can_withstand(state: CraftState, attribute: Amount) -> bool
+pub fn can_withstand(state: CraftState, attribute: Amount) -> bool
     requires { ⌜ AtMost wearMost attribute ⌝ }
     ensures { λ r. ⌜ r ≡ withstands state attribute ⌝ }
 {
@@ -87,7 +87,7 @@ pub fn own_rule(context: CraftContext, state: CraftState, n: u8, row: Attributes
     }
 }
 
-fn lost(durability: i8, most: i8) -> i8
+pub fn lost(durability: i8, most: i8) -> i8
     requires { ⌜ DurabilityIn durability most ⌝ }
     ensures { λ r. ⌜ r ≡ most -ℤ durability ⌝ }
 {

@@ -15,10 +15,10 @@ use craft_context::CraftContext;
 use craft_state::CraftState;
 
 // A finish asks for this part of the quality.
-const QUALITY_PART: u32 = 5;
+pub const QUALITY_PART: u32 = 5;
 
 // At the first step of such a craft TrainedEye is the only move.
-fn is_eye_alone(context: CraftContext, state: CraftState) -> bool
+pub fn is_eye_alone(context: CraftContext, state: CraftState) -> bool
     ensures { λ r. ⌜ r ≡ eyeAlone context state ⌝ }
 {
     let pool = context.action_pool;

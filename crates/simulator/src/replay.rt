@@ -74,7 +74,7 @@ pub fn execute_actions(context: CraftContext, mode: Mode, list: &[u8]) -> Replay
         state = play(context, state, n, row, legal);
         i += 1;
     };
-    let moves = moves::legal_moves(context, state, mode);
+    let moves = moves::moves_at_once(context, state, mode);
     Replay {
         state,
         moves: ActionSet(moves),

@@ -8,7 +8,7 @@ use lib.Dec.{T, leb, leb→le, lit≤, eqb}
 use borrow.Author.Tests.{eqb-true}
 use Rattle.laws.specs.laws.Same.{below, below-at}
 use Rattle.action.specs.Actions as A
-use Rattle.action.specs.Limits.{progressMost, qualityMost, wearMost, priceMost, discountPrice}
+use Rattle.action.specs.Limits.{progressMost, qualityMost, wearMost, priceMost, discountPrice, dearest}
 use Rattle.action.specs.Known.{actions}
 use Rattle.action.specs.Amount.{AtMost, AtLeast}
 use Rattle.action.specs.Table.{actionOf, attributesOf}
@@ -34,7 +34,7 @@ each : (most : ℕ) (field : Attributes → Amount) → T (below (λ n. within m
 each most field t n h = within-at-most most (field (attributesOf n)) (below-at (λ n. within most (field (attributesOf n))) actions n h t)
 
 -- THE theorem of the table: each row of ours has the bounds
-pub rows-bounded : (n : ℕ) → n < actions → RowBounds n (attributesOf n)
+pub rows-bounded : RowsIn attributesOf
 unfolding actionOf
 rows-bounded n h =
     record {
@@ -47,8 +47,10 @@ rows-bounded n h =
       shape = record { progress = refl; quality = refl; durability = refl; price = refl };
     }
 
-pub table-in : RowsIn attributesOf
-table-in = record { row = rows-bounded }
+-- no price of ours is above the dearest
+pub dearest-most : (n : ℕ) → n < actions → AtMost dearest (attributesOf n .«cp_cost»)
+unfolding actionOf
+dearest-most = each dearest (λ a. a .«cp_cost») tt
 
 -- a discount is never a surcharge
 module _ {n : ℕ} {row : Attributes} (bounds : RowBounds n row) {base : ℕ} (cost : row .«cp_cost» ≡ Of base) where

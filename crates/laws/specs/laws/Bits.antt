@@ -4,16 +4,16 @@ use mathlib.Core.Path.{_≡_, refl, sym, ap, ap₂, _∙_, subst}
 use mathlib.Core.Bool.{Bool, true, false, cond, not, _&&_, _||_}
 use mathlib.Core.Logic.{⊎-elim}
 use Prim.Native.Nat.{ℕ, zero, suc, _+_, _-_, _*_, _/_, _%_, _^_, _≤_, _<_}
-use native.Mathlib.Nat.{eq-or-lt-of-le, le-of-suc-le-suc, le-trans, lt-of-lt-of-le, lt-irrefl, lt-of-not-le, not-suc-le-zero, zero-lt-suc}
+use native.Mathlib.Nat.{eq-or-lt-of-le, le-of-suc-le-suc, le-trans, lt-of-lt-of-le, lt-of-le-of-lt, lt-irrefl, lt-of-not-le, not-suc-le-zero, zero-lt-suc}
 use native.Mathlib.Nat.{add-comm, add-zero, one-mul, zero-mul, mod-lt, mod-one, mod-eq-of-lt, div-eq-of-lt, div-eq-of-lt-le, pow-suc}
 use native.Mathlib.Numerals.{one-add}
 use native.Mathlib.Omega.{arith}
 use borrow.Author.Tests.{eq-eqb, ne-eqb, eqb-true, eqb-false}
 use lib.Dec.{eqb}
-use lib.Bits.{bitAnd, bitOr, and-high, or-add-and}
+use lib.Bits.{bitAnd, bitOr, and-high, and-le-l, and-shr, and-mod, or-add-and}
 use lib.Pow.{pow-pos, pow-add, pow-mono, mod-pow-add, mod-mod-pow, field, high, low}
 use lib.Count.{ones, ones-cat, leadingZeros, leading-top}
-use Rattle.laws.specs.laws.Tests.{or-false, or-true, and-true, and-false, either, true-false}
+use Rattle.laws.specs.laws.Tests.{or-false, or-true, and-true, and-false, and-assoc, either, true-false}
 use Rattle.laws.specs.Bits.{has, collect, withBit, withoutBit, keepBits, count, highestBelow}
 use Rattle.laws.specs.inner.Bits.{Member, Top}
 
@@ -211,9 +211,66 @@ module _ (w s : ℕ) where
   pub has-keep : (f : ℕ → Bool) (m : ℕ) → m < w → has (keepBits w f s) m ≡ has s m && f m
   has-keep f m l = has-collect (λ m. has s m && f m) w m l
 
+-- ---- what is kept
+
+module _ (w s : ℕ) (f g : ℕ → Bool) where
+  -- two tests that agree on the members keep the same
+  pub keep-same : ((m : ℕ) → m < w → has s m ≡ true → f m ≡ g m) → keepBits w f s ≡ keepBits w g s
+  keep-same e = collect-same (λ m. has s m && f m) (λ m. has s m && g m) w (λ m l. by (has s m) (e m l))
+    where
+      by : {x y : Bool} (b : Bool) → (b ≡ true → x ≡ y) → b && x ≡ b && y
+      by true h = h refl
+      by false h = refl
+
+  -- one test after the other is both at once
+  pub keep-keep : keepBits w g (keepBits w f s) ≡ keepBits w (λ m. f m && g m) s
+  keep-keep =
+      collect-same (λ m. has (keepBits w f s) m && g m) (λ m. has s m && (f m && g m)) w
+      (λ m l. ap (λ (b : Bool). b && g m) (has-keep w s f m l) ∙ and-assoc (has s m) (f m) (g m))
+
+-- all is kept where every member passes
+pub keep-whole : (w s : ℕ) (f : ℕ → Bool) → s < 2 ^ w → ((m : ℕ) → m < w → f m ≡ true) → keepBits w f s ≡ s
+keep-whole w s f small e = collect-same (λ m. has s m && f m) (has s) w (λ m l. rw (e m l) (and-true (has s m))) ∙ set-of-has w s small
+
 -- nothing is kept of the empty set
 pub keep-none : (w : ℕ) (f : ℕ → Bool) → keepBits w f 0 ≡ 0
 keep-none w f = collect-same (λ m. has 0 m && f m) (has 0) w (λ m l. rw (has-high 0 m (pow-pos m))) ∙ set-of-has w 0 (pow-pos w)
+
+-- ---- what two sets share, and what one has beyond the other
+
+digits-and : (x y : ℕ) → x < 2 → y < 2 → eqb (bitAnd x y) 1 ≡ eqb x 1 && eqb y 1
+digits-and zero y h k = refl
+digits-and (suc zero) zero h k = refl
+digits-and (suc zero) (suc zero) h k = refl
+digits-and (suc zero) (suc (suc y)) h k = absurd (omega arith)
+digits-and (suc (suc x)) y h k = absurd (omega arith)
+
+has-and : (s t n : ℕ) → has (bitAnd s t) n ≡ has s n && has t n
+unfolding has
+has-and s t n =
+    ap (λ (x : ℕ). eqb (x % 2) 1) (and-shr s t n)
+    ∙ ap (λ (x : ℕ). eqb x 1) (and-mod (s / 2 ^ n) (t / 2 ^ n) 1)
+    ∙ digits-and (s / 2 ^ n % 2) (t / 2 ^ n % 2) (mod-lt (s / 2 ^ n) (zero-lt-suc 1)) (mod-lt (t / 2 ^ n) (zero-lt-suc 1))
+
+-- p is where q holds besides, and where it does not
+collect-split : (p q : ℕ → Bool) (k : ℕ) → collect k p ≡ collect k (λ m. p m && q m) + collect k (λ m. p m && not (q m))
+unfolding collect
+collect-split p q zero = refl
+collect-split p q (suc k) = by (p k) (q k) (collect k p) (collect k (λ m. p m && q m)) (collect k (λ m. p m && not (q m))) (collect-split p q k)
+  where
+    by : (a b : Bool) (x y z : ℕ) → x ≡ y + z → x + cond a (2 ^ k) 0 ≡ y + cond (a && b) (2 ^ k) 0 + (z + cond (a && not b) (2 ^ k) 0)
+    by true true x y z e = omega arith
+    by true false x y z e = omega arith
+    by false b x y z e = omega arith
+
+module _ (w s t : ℕ) (small : s < 2 ^ w) where
+  pub and-keep : bitAnd s t ≡ keepBits w (has t) s
+  and-keep =
+      sym (set-of-has w (bitAnd s t) (lt-of-le-of-lt (and-le-l s t) small))
+      ∙ collect-same (has (bitAnd s t)) (λ m. has s m && has t m) w (λ m l. has-and s t m)
+
+  pub less-keep : s - bitAnd s t ≡ keepBits w (λ m. not (has t m)) s
+  less-keep = omega (arith, collect-split (has s) (has t) w, set-of-has w s small, and-keep)
 
 -- ---- the size
 

@@ -63,6 +63,14 @@ pub or-assoc : (a b c : Bool) → (a || b) || c ≡ a || (b || c)
 or-assoc true b c = refl
 or-assoc false b c = refl
 
+pub and-assoc : (a b c : Bool) → (a && b) && c ≡ a && (b && c)
+and-assoc true b c = refl
+and-assoc false b c = refl
+
+pub and-comm : (a b : Bool) → a && b ≡ b && a
+and-comm true b = sym (and-true b)
+and-comm false b = sym (and-false b)
+
 -- whichever of two a test picks is at most what both are
 pub cond-le : (t : Bool) {x y most : ℕ} → x ≤ most → y ≤ most → cond t x y ≤ most
 cond-le true p q = p

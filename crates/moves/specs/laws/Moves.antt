@@ -59,7 +59,7 @@ module _ (rows : Rows) (c : CraftContext) (s : CraftState) (mode : Mode) where
 
 module _ (c : CraftContext) (s : CraftState) (n : ℕ) (row : Attributes) where
   -- TrainedEye alone, at the first step of a craft that is not expert: its own rule holds
-  eye-own : eyeAlone c s ≡ true → n ≡ A.TrainedEye → ownRule c s n row ≡ true
+  pub eye-own : eyeAlone c s ≡ true → n ≡ A.TrainedEye → ownRule c s n row ≡ true
   unfolding ownRule
   eye-own e k =
       let first = both (eqb (s .step) stepLeast && ltb 0 (c .«quality_target») && not (c .«is_expert»)) (has (c .«action_pool» .0) A.TrainedEye) e .0 in
@@ -157,7 +157,7 @@ module _
         (not-true (ended c s) (parts .0), both (has (c .«action_pool» .0) n) (allowsBy rows c s mode n) (parts .1) .1)
 
     pub legal-playable : Playable c s n (rows n)
-    legal-playable = allowed-playable c s mode n (rows n) (bounded .row n h) g h (going c s (legal-allowed .0)) (legal-allowed .1)
+    legal-playable = allowed-playable c s mode n (rows n) (bounded n h) g h (going c s (legal-allowed .0)) (legal-allowed .1)
 
     pub legal-affordable : chargeOf n (s .«previous_combo_action») (rows n .«cp_cost») ≤ s .cp
     legal-affordable = legal-playable .payable
@@ -170,14 +170,14 @@ module _
         both (s .«quick_innovation_available») (eqb (s .buffs .innovation) 0) (subst (λ (m : ℕ). ownRule c s m (rows n) ≡ true) e own) .0
 
     pub legal-keeps : CraftIn c (executeBy rows c s n)
-    legal-keeps = execute-in c s n (rows n) (bounded .row n h) legal-playable
+    legal-keeps = execute-in c s n (rows n) (bounded n h) legal-playable
 
     -- so the next state passes the tests of refusal 2
     pub legal-inside : stateInside c (executeBy rows c s n) ≡ true
     legal-inside = in-state c (executeBy rows c s n) (legal-keeps .state)
 
     pub legal-pays : executeBy rows c s n .cp + chargeOf n (s .«previous_combo_action») (rows n .«cp_cost») ≡ s .cp
-    legal-pays = execute-pays c s n (rows n) (bounded .row n h) legal-playable
+    legal-pays = execute-pays c s n (rows n) (bounded n h) legal-playable
 
 -- ---- strict moves are a part of the plain ones
 

@@ -13,7 +13,7 @@ use Rattle.text.specs.Over.{over, Put}
 use Rattle.text.specs.laws.Over.{over-more, put-as}
 use Rattle.text.specs.laws.Lengths.{decimal-most, hex-length}
 use Rattle.action.specs.Table.{attributesOf}
-use Rattle.action.specs.laws.Bounds.{table-in}
+use Rattle.action.specs.laws.Bounds.{rows-bounded}
 use Rattle.action.specs.Known.{actions, knownFront}
 use Rattle.craft_context.specs.declared.context.CraftContext.{CraftContext}
 use Rattle.craft_context.specs.Limits.{ContextIn}
@@ -111,7 +111,7 @@ module _ (c : CraftContext) (list : List ℕ) where
 
   module _ (inside : ContextIn c) (top : c .«step_max» ≤ stepMost) (known : length list ≤ knownFront list) where
     pub kept : {r : Replay} → r ≡ replayOf c plain list → Promise c plain list r
-    kept f = rw f (promised attributesOf table-in c plain inside top list (all-known list known))
+    kept f = rw f (promised attributesOf rows-bounded c plain inside top list (all-known list known))
 
     pub executed-played : {r : Replay} → r ≡ replayOf c plain list → Played c (startOf c) (take (r .executed) list)
     executed-played {r} f = record { known = take-known list (r .executed) (all-known list known); legal = kept f .executed .legal }

@@ -10,7 +10,7 @@ use Rattle.refusal.specs.laws.Judge.{stopped, stopped-by, onward, onward-by, an
 use Rattle.laws.specs.Bits.{has}
 use Rattle.action.specs.Known.{actions, actionTest}
 use Rattle.action.specs.Table.{attributesOf}
-use Rattle.action.specs.laws.Bounds.{rows-bounded, table-in}
+use Rattle.action.specs.laws.Bounds.{rows-bounded}
 use Rattle.action.specs.laws.Known.{action-shown}
 use Rattle.craft_state.specs.Limits.{givenTests}
 use Rattle.craft_state.specs.Inside.{CraftIn}
@@ -79,7 +79,7 @@ step-spec =
     let row = l .before in
     let k = row .before .before .before in
     rw (row .attributes-of .ensures)
-    (legal-playable attributesOf table-in _ _ _ _ (inside (k .before)) (known (row .before)) (tested l (c .if1 .taken)), rows-bounded _ (known (row .before))))
+    (legal-playable attributesOf rows-bounded _ _ _ _ (inside (k .before)) (known (row .before)) (tested l (c .if1 .taken)), rows-bounded _ (known (row .before))))
     (λ c.
     let l = c .before .before in
     let row = l .before in

@@ -11,7 +11,7 @@ use Rattle.action.specs.Bounds.{RowBounds}
 use Rattle.action.specs.Known.{actions}
 use Rattle.action.specs.Table.{attributesOf}
 use Rattle.action.specs.laws.Known.{known-each}
-use Rattle.action.specs.laws.Bounds.{rows-bounded, table-in}
+use Rattle.action.specs.laws.Bounds.{rows-bounded}
 use Rattle.craft_state.specs.declared.state.CraftState.{CraftState}
 use Rattle.craft_state.specs.Inside.{CraftIn}
 use Rattle.craft_state.specs.laws.Inside.{start-in}
@@ -125,7 +125,7 @@ play-requires c κs =
     let inside = k .before .before .before .before .loop .inv .2 in (
       λ t.
           subst (Playable _ _ _) (sym (p .before .attributes-of .ensures))
-          (legal-playable attributesOf table-in _ _ _ _ inside (known k) (legal-is attributesOf _ _ _ _ (known k) (going (k .before .before)) (tested p t))),
+          (legal-playable attributesOf rows-bounded _ _ _ _ inside (known k) (legal-is attributesOf _ _ _ _ (known k) (going (k .before .before)) (tested p t))),
       bounded (p .before),
     )
 
@@ -144,21 +144,21 @@ loop-again c =
     let passed = tested p (not-false (p .passes .result) (c .before .if3 .left)) in
     let on = place-on attributesOf _ _ (l .state) (s .args .list .now) (l .i) (k .before .if2 .left) (known k) (going (k .before .before)) passed in
     let legal = legal-is attributesOf _ _ (l .state) _ (known k) (going (k .before .before)) passed in
-    let inside = legal-keeps attributesOf table-in _ (l .state) _ _ (l .inv .2) (known k) legal in
+    let inside = legal-keeps attributesOf rows-bounded _ (l .state) _ _ (l .inv .2) (known k) legal in
     let next = replayFrom attributesOf (s .args .context) (s .args .mode) in (
       omega (arith, k .before .if2 .left),
       ap (λ (x : CraftState). next x (l .i + 1) (drop (l .i + 1) (s .args .list .now))) (moved c) ∙ sym on ∙ l .inv .1,
       subst (CraftIn (s .args .context)) (sym (moved c)) inside,
     )
 
-legal-moves-requires : tie.Need-legal-moves-requires Inv-loop μ-loop
-legal-moves-requires c κs = c .before .before .loop .inv .2
+moves-at-once-requires : tie.Need-moves-at-once-requires Inv-loop μ-loop
+moves-at-once-requires c κs = c .before .before .loop .inv .2
 
 settled-requires : tie.Need-settled-requires Inv-loop μ-loop
 settled-requires c κs = stops (c .before) .1
 
 returns : tie.Need-returns Inv-loop μ-loop
-returns c = (simp (c .settled .ensures .0, c .before .legal-moves .ensures .0) (sym (stops (c .before .before) .0)), c .settled .ensures .1)
+returns c = (simp (c .settled .ensures .0, c .before .moves-at-once .ensures .0) (sym (stops (c .before .before) .0)), c .settled .ensures .1)
 
 pub execute-actions-spec : {M : Type 1} → statement M
 execute-actions-spec =
@@ -177,6 +177,6 @@ execute-actions-spec =
     add-i
     loop-less
     loop-again
-    legal-moves-requires
+    moves-at-once-requires
     settled-requires
     returns)

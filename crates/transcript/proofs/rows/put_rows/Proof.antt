@@ -7,7 +7,7 @@ use lib.ListN.{length, drop}
 use Rattle.text.specs.Over.{over}
 use Rattle.text.specs.laws.Over.{over-none}
 use Rattle.action.specs.Table.{attributesOf}
-use Rattle.action.specs.laws.Bounds.{rows-bounded, table-in}
+use Rattle.action.specs.laws.Bounds.{rows-bounded}
 use Rattle.craft_state.specs.Inside.{CraftIn}
 use Rattle.step.specs.Step.{executedOf}
 use Rattle.moves.specs.Modes.{plain}
@@ -41,7 +41,7 @@ execute-single-requires c κs =
     let h = c .before .before .loop-test .taken in
     let known = next-known _ (l .state) _ h (l .inv .2) in
     rw (c .attributes-of .ensures)
-    (legal-playable attributesOf table-in _ (l .state) plain _ (l .inv .1) known (next-legal _ (l .state) _ h (l .inv .2)), rows-bounded _ known)
+    (legal-playable attributesOf rows-bounded _ (l .state) plain _ (l .inv .1) known (next-legal _ (l .state) _ h (l .inv .2)), rows-bounded _ known)
 
 put-row-requires : tie.Need-put-row-requires Inv-loop μ-loop
 put-row-requires c κs = let l = c .before .before .before .before .before .loop in omega (arith, l .inv .5, l .inv .6, c .before .before .before .before .loop-test .taken, c .before .before .before .before .before .before .before .before .pre .2)
@@ -56,7 +56,7 @@ loop-again c =
     let e = turn .execute-single .ensures ∙ ap (executedOf _ _ _) (turn .before .attributes-of .ensures) in
     let p = row .put-row .ensures .0 in (
       omega arith,
-      subst (CraftIn _) (sym e) (legal-keeps attributesOf table-in _ (l .state) plain _ (l .inv .1) known (next-legal _ (l .state) _ h (l .inv .2))),
+      subst (CraftIn _) (sym e) (legal-keeps attributesOf rows-bounded _ (l .state) plain _ (l .inv .1) known (next-legal _ (l .state) _ h (l .inv .2))),
       rest-played _ (l .state) _ h e (l .inv .2),
       rows-over _ (l .state) _ h e p ∙ l .inv .3,
       rows-count _ (l .state) _ h e p ∙ l .inv .4,

@@ -1,0 +1,51 @@
+// The moves of a state at once: what each rule leaves of the pool, and last a walk for the price. Beside `allowed` and `strictly`, which test one
+// candidate, and equal to the walk over candidates.
+ghost use mathlib.Core.Path.{_≡_};
+ghost use Rattle.action.specs.Table.{attributesOf};
+ghost use Rattle.action_set.specs.Sets.{SetIn, keepOf};
+ghost use Rattle.craft_state.specs.Inside.{CraftIn};
+ghost use Rattle.moves.specs.Moves.{movesOf};
+ghost use Rattle.moves.specs.inner.Sets.{strictBeyond};
+use super::amounts::keep_payable;
+use super::amounts::progress_moves;
+use super::legal::has_ended;
+use super::mode::Mode;
+use super::sets::QUALITY;
+use super::sets::TRAINED_EYE;
+use super::sets::kind_moves;
+use super::sets::own_moves;
+use super::sets::strict_moves;
+use super::sets::unless;
+use super::sets::within;
+use super::strict::is_eye_alone;
+use craft_context::CraftContext;
+use craft_state::CraftState;
+
+// What strict mode leaves of a set that each action's own rule has been taken to.
+fn strict_part(context: CraftContext, state: CraftState, set: u32) -> u32
+    requires { ⌜ CraftIn context state × SetIn set ⌝ }
+    ensures { λ r. ⌜ (r ≡ keepOf (λ n. strictBeyond context state n (attributesOf n)) set) × SetIn r ⌝ }
+{
+    if is_eye_alone(context, state) {
+        return within(set, TRAINED_EYE);
+    }
+    let strict = strict_moves(context, state, set);
+    let kind = kind_moves(context, state, strict);
+    progress_moves(context, state, kind)
+}
+
+pub fn moves_at_once(context: CraftContext, state: CraftState, mode: Mode) -> u32
+    requires { ⌜ CraftIn context state ⌝ }
+    ensures { λ r. ⌜ (r ≡ movesOf context state mode) × SetIn r ⌝ }
+{
+    if has_ended(context, state) {
+        return 0;
+    }
+    let pool = context.action_pool;
+    let set = unless(pool.0, QUALITY, state.quality < context.quality_target);
+    let own = own_moves(context, state, set);
+    if mode.strict {
+        return keep_payable(state.cp, strict_part(context, state, own));
+    }
+    keep_payable(state.cp, own)
+}
