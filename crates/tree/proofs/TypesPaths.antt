@@ -33,7 +33,7 @@ abbrev pub pick′ : PlainFn
 pick′ = record { takes = best′ ∷ usize′ ∷ node′ ∷ usize′ ∷ []; gives = best′; asks = nothing-asked; says = λ a r. r ≡ pickOf (a .0) (a .1 .0) (a .1 .1 .0) (a .1 .1 .1 .0) }
 
 abbrev pub best-child′ : ShrFn T.the-row
-best-child′ = record { takes = usize′ ∷ usize′ ∷ []; gives = best′; asks = that (λ xs a. SoundTree xs (a .0)); says = λ xs a r. r .at ≡ bestOf (a .0) xs (a .1 .0) }
+best-child′ = record { takes = usize′ ∷ usize′ ∷ []; gives = best′; asks = that (λ xs a. SoundTree xs (a .0) × (a .1 .0 < a .0)); says = λ xs a r. r .at ≡ bestOf (a .0) xs (a .1 .0) }
 
 abbrev pub solution-len′ : ShrFn T.the-row
 solution-len′ = record { takes = usize′ ∷ []; gives = usize′; asks = that (λ xs a. SoundTree xs (a .0)); says = λ xs a r. r ≡ length (solutionOf xs (a .0)) }

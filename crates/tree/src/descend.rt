@@ -1,6 +1,6 @@
 // The way down from record 0, by the best child of each: what `solution` writes.
 ghost use mathlib.Core.Path.{_≡_};
-ghost use Prim.Native.Nat.{_≤_};
+ghost use Prim.Native.Nat.{_≤_, _<_};
 ghost use lib.ListN.{length};
 ghost use Rattle.text.specs.Over.{over};
 ghost use Rattle.tree.specs.Tree.{bestOf, solutionOf, endOf};
@@ -11,12 +11,13 @@ use super::node::Node;
 use super::records::node_at;
 use text::put_byte;
 
+// A child is above its parent, so the search starts after it.
 pub fn best_child(nodes: &[Node], count: usize, parent: usize) -> Best
-    requires { ⌜ SoundTree (now nodes) count ⌝ }
+    requires { ⌜ SoundTree (now nodes) count × (parent < count) ⌝ }
     ensures { λ r. ⌜ r .at ≡ bestOf count (now (nodes .entry)) parent ⌝ }
 {
     let mut best = Best::none();
-    let mut i = 0;
+    let mut i = parent + 1;
     while i < count {
         let n = node_at(nodes, i);
         best = pick(best, i, n, parent);

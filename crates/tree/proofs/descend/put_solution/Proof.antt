@@ -61,7 +61,7 @@ put-solution-spec 𝓤 H 𝓜 𝓖 𝓡 =
     let E = env (code.function .locals) bs in
     sets ! (of-opd ! (lit ! tt)) refl (tt, record { fits = lit< tt }) $
     sets ! (of-opd ! (lit ! tt)) refl (tt, record { fits = lit< tt }) $
-    calls-shr 𝓣 S ys ! then best-child′ finds (n, (0, tt)) (are .0, ((refl, lit< tt), tt)) same tree (λ _ _. opd ! refl & opd ! refl & opd ! refl & no-more !) (λ b₀ b₀-is b₀-ty b₀-said. lands-in ! refl (b₀-ty .0) $
+    calls-shr 𝓣 S ys ! then best-child′ finds (n, (0, tt)) (are .0, ((refl, lit< tt), tt)) same (tree, tree .some) (λ _ _. opd ! refl & opd ! refl & opd ! refl & no-more !) (λ b₀ b₀-is b₀-ty b₀-said. lands-in ! refl (b₀-ty .0) $
     whiles 𝓣 (λ (x : State ys n os). ‵ (Shr S ys) ∷ ‵ (Tok S) ∷ holding (Own O (x .out)) (Tok O) E (none ∷ has (fat S) ∷ has (fat O) ∷ has (usize′ .val n) ∷ has (usize′ .val (x .p)) ∷ has (usize′ .val (x .at)) ∷ has (best′ .val (x .best)) ∷ []))
     (λ x. n - x .p) (λ x. not (eqb (x .best .at) 0)) ! (λ _. refl) (λ _ _. (tt, tt)) (λ _ _. refl) (λ x. bin ! (part ! refl refl refl refl) (lit ! tt) tt)
     (λ x goes-on G _ again.
@@ -76,7 +76,7 @@ put-solution-spec 𝓤 H 𝓜 𝓖 𝓡 =
     reborrows ! (O .room .0) refl refl refl refl refl refl refl refl $ move ! (2 ∷ 3 ∷ []) $
     calls-mut 𝓣 O (x .out) ! then put-byte′ puts (x .at, (m .action, tt)) ((refl, omega (arith, room, long, O .room .0)), ((refl, action-fits m m-is), tt)) long room (λ _ _. opd ! refl & opd ! refl & part ! refl refl refl refl & no-more !) (λ r zs r-is r-ty same′ said. lands-in ! refl (r-ty .0) $ move ! (2 ∷ 3 ∷ []) $
     let turn : Turned ys n os (x .best .at) r zs = turned ys n tree os x more m-said said in
-    calls-shr 𝓣 S ys ! last best-child′ finds (n, (x .best .at, tt)) (are .0, ((refl, k-fits), tt)) same tree (λ _ _. opd ! refl & opd ! refl & opd ! refl & no-more !) (λ b b-is b-ty b-said. lands-last ! refl (b-ty .0) $
+    calls-shr 𝓣 S ys ! last best-child′ finds (n, (x .best .at, tt)) (are .0, ((refl, k-fits), tt)) same (tree, below) (λ _ _. opd ! refl & opd ! refl & opd ! refl & no-more !) (λ b b-is b-ty b-said. lands-last ! refl (b-ty .0) $
     keeps ! 7 refl $
     again (record { p = x .best .at; at = r; best = b; out = zs; best-is = b-is; found = b-said; down = turn .down; stored = turn .stored }) (omega (arith, rises, below))))))
     (λ x over.
