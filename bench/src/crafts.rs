@@ -1,59 +1,78 @@
-//! A craft that lasts for 250 actions, and lists of moves that are executed whole.
+//! What is crafted.
 
 use brothlantern::Context;
-use crafty::{Action, CraftContext, CraftOptions, CraftState, Player, Recipe};
+use crafty::{CraftContext, CraftOptions, Player, Recipe};
 
-/// Which lists of one length are asked.
+/// The greatest that a target or a player's points may be.
+const MOST: u32 = 1_000_000;
+/// The dearest action costs 250.
+const FEW_POINTS: u32 = 180;
+
 #[derive(Clone, Copy)]
-pub enum Lists {
-    /// Different ones in turn, so that no branch is learned by heart.
-    InTurn,
-    /// One over and over, as a page does.
-    Same,
+pub enum Craft {
+    /// Lasts for 250 actions: targets, points and steps are as great as the limits let them be.
+    Lasting,
+    /// The same, but with too few points for all of its actions.
+    FewPoints,
+    /// As a player of the highest level has it.
+    Players,
 }
 
-impl Lists {
-    fn count(self) -> usize {
+impl Craft {
+    /// In turn, where there are several of a kind.
+    pub fn contexts(self) -> Vec<CraftContext> {
         match self {
-            Lists::InTurn => 64,
-            Lists::Same => 1,
+            Craft::Lasting => vec![lasting(MOST)],
+            Craft::FewPoints => vec![lasting(FEW_POINTS)],
+            Craft::Players => [60, 70, 80].map(players).to_vec(),
         }
     }
 
-    /// What comes behind the name of a case.
+    /// What comes behind the length in the name of a case.
     pub fn note(self) -> &'static str {
         match self {
-            Lists::InTurn => "",
-            Lists::Same => ", same list",
+            Craft::Lasting => "",
+            Craft::FewPoints => ", few points",
+            Craft::Players => ", a player's",
         }
     }
 }
 
-/// As the page builds one, but for targets, points and steps, which are as great as the limits let them be.
-pub fn craft() -> CraftContext {
-    let player = Player::new(100, 1_000, 1_000, 1_000_000);
-    let recipe = Recipe {
+/// As the page builds one, but for targets, points and steps.
+pub fn lasting(points: u32) -> CraftContext {
+    let recipe = Recipe { progress: MOST, quality: MOST, ..recipe(80) };
+    CraftContext::new(&Player::new(100, 1_000, 1_000, points), &recipe, options(255))
+}
+
+fn players(durability: i8) -> CraftContext {
+    CraftContext::new(&Player::new(100, 4_800, 4_500, 580), &recipe(durability), options(50))
+}
+
+fn recipe(durability: i8) -> Recipe {
+    Recipe {
         recipe_level: 690,
         job_level: 100,
         stars: 0,
-        progress: 1_000_000,
-        quality: 1_000_000,
-        durability: 80,
+        progress: 6_600,
+        quality: 12_000,
+        durability,
         progress_div: 170,
         progress_mod: 90,
         quality_div: 150,
         quality_mod: 75,
         is_expert: false,
         conditions_flag: 15,
-    };
-    let options = CraftOptions {
-        max_steps: 255,
+    }
+}
+
+fn options(max_steps: u8) -> CraftOptions {
+    CraftOptions {
+        max_steps,
         player_is_specialist: true,
         use_manipulation: true,
         use_delineation: true,
         ..CraftOptions::default()
-    };
-    CraftContext::new(&player, &recipe, options)
+    }
 }
 
 pub fn ours(context: &CraftContext) -> Context {
@@ -73,62 +92,5 @@ pub fn ours(context: &CraftContext) -> Context {
         player_is_specialist: context.player_is_specialist,
         use_manipulation: context.use_manipulation,
         use_delineation: context.use_delineation,
-    }
-}
-
-pub fn lists(
-    context: &CraftContext,
-    which: Lists,
-    length: usize,
-    strict: bool,
-) -> Vec<Vec<Action>> {
-    let mut random = Random(length as u64);
-    (0..which.count()).map(|_| list(&mut random, context, length, strict)).collect()
-}
-
-pub fn numbers(list: &[Action]) -> Vec<u8> {
-    list.iter().map(|action| *action as u8).collect()
-}
-
-fn list(random: &mut Random, context: &CraftContext, length: usize, strict: bool) -> Vec<Action> {
-    loop {
-        let list = walk(random, context, length, strict);
-        if list.len() == length {
-            return list;
-        }
-    }
-}
-
-/// Any moves that do not end the craft, until there are enough or none is left.
-fn walk(random: &mut Random, context: &CraftContext, length: usize, strict: bool) -> Vec<Action> {
-    let mut state = if strict { CraftState::new_strict(context) } else { CraftState::new(context) };
-    let mut list = Vec::new();
-    while list.len() < length {
-        let mut moves = state.available_moves.to_vec();
-        let after = |action: &Action| {
-            if strict {
-                state.execute_strict(action)
-            } else {
-                state.execute(action)
-            }
-        };
-        moves.retain(|action| after(action).check_result().is_none());
-        if moves.is_empty() {
-            break;
-        }
-        let action = moves[random.below(moves.len())];
-        list.push(action);
-        state = after(&action);
-    }
-    list
-}
-
-pub struct Random(pub u64);
-
-impl Random {
-    pub fn below(&mut self, end: usize) -> usize {
-        self.0 =
-            self.0.wrapping_mul(6_364_136_223_846_793_005).wrapping_add(1_442_695_040_888_963_407);
-        ((u128::from(self.0) * end as u128) >> 64) as usize
     }
 }

@@ -1,62 +1,86 @@
-//! bench [ROUNDS]: times ours and the Rust on the same inputs, in one process, prints the median ratios and judges the
-//! goals by them.
+//! bench [ROUNDS] [--goals]: times ours and the Rust on the same inputs, in one process, prints the median ratios and
+//! judges the goals by them. With --goals a goal that is missed makes the exit status 1.
+//! bench count CASE CALLS: makes our calls of a case alone, so that another program can count their instructions.
 
 mod archive;
+mod cases;
 mod crafts;
+mod lists;
 mod measure;
 mod replays;
 mod texts;
 mod trees;
 
-use brothlantern::Mode;
-use crafts::Lists;
+use cases::Case;
 use measure::Figure;
+use std::process::ExitCode;
 
-const SHORT: &[usize] = &[1, 10];
-const LONG: &[usize] = &[40, 250];
-const ALL: &[usize] = &[1, 10, 40, 250];
+const ROUNDS: usize = 25;
+const MUST_MEET_GOALS: &str = "--goals";
+/// The most that a solution on all records may take, in scans of them.
+const SCANS_OF_A_SOLUTION: f64 = 1.5;
 
-fn main() {
-    let rounds =
-        std::env::args().nth(1).map_or(25, |word| word.parse().expect("a number of rounds"));
-    println!("{:<44} {:>12} {:>12} {:>9}", "", "ours, ns", "Rust, ns", "ratio");
-    let replays = |mode, lengths| {
-        printed(lengths, |which, length| replays::measure(rounds, which, length, mode))
-    };
-    let texts = |lengths| printed(lengths, |which, length| texts::measure(rounds, which, length));
-    let goals = [
-        ("replays of 1 and 10", 5.0, replays(Mode::Plain, SHORT)),
-        ("replays of 40 and 250", 20.0, replays(Mode::Plain, LONG)),
-        ("strict replays of 1 and 10", 5.0, replays(Mode::Strict, SHORT)),
-        ("strict replays of 40 and 250", 20.0, replays(Mode::Strict, LONG)),
-        ("texts", 1.0, texts(ALL)),
-    ];
-    for figure in trees::measure(rounds) {
+fn main() -> ExitCode {
+    let words: Vec<String> = std::env::args().skip(1).collect();
+    if words.first().map_or(false, |word| word == "count") {
+        count(&words[1], number(&words[2]));
+        return ExitCode::SUCCESS;
+    }
+    let must_meet = words.iter().any(|word| word == MUST_MEET_GOALS);
+    let mut others = words.iter().filter(|word| *word != MUST_MEET_GOALS);
+    let met = time(others.next().map_or(ROUNDS, |word| number(word)));
+    ExitCode::from(u8::from(must_meet && !met))
+}
+
+fn number(word: &str) -> usize {
+    word.parse().expect("a number")
+}
+
+fn count(name: &str, calls: usize) {
+    let cases = cases::all();
+    cases.iter().find(|case| case.name() == name).expect("a case").call(calls);
+}
+
+/// Prints the figures and the goals, and answers whether all are met.
+fn time(rounds: usize) -> bool {
+    println!("{:<48} {:>12} {:>12} {:>9}", "", "ours, ns", "Rust, ns", "ratio");
+    let cases: Vec<(Case, Figure)> =
+        cases::all().into_iter().map(|case| (case, printed(case.measure(rounds)))).collect();
+    let trees = trees::measure(rounds);
+    for figure in &trees.figures {
         println!("{figure}");
     }
-    for (what, least, figures) in &goals {
-        judge(what, *least, figures.iter());
+    let mut met = true;
+    for (case, figure) in &cases {
+        met &= case.goal.map_or(true, |goal| judge_ratio(&figure.name, goal, figure.ratio));
     }
-    judge("all replays and texts", 1.0, goals.iter().flat_map(|(_, _, figures)| figures));
+    let slowest = cases.iter().map(|(_, figure)| figure).min_by(|a, b| a.ratio.total_cmp(&b.ratio));
+    met &= judge_ratio("every replay and text", 1.0, slowest.expect("a case").ratio);
+    met & judge_solution(trees.scans_of_a_solution)
 }
 
-fn printed(lengths: &[usize], measure: impl Fn(Lists, usize) -> Figure) -> Vec<Figure> {
-    let mut figures = Vec::new();
-    for which in [Lists::InTurn, Lists::Same] {
-        for length in lengths {
-            let figure = measure(which, *length);
-            println!("{figure}");
-            figures.push(figure);
-        }
-    }
-    figures
+fn printed(figure: Figure) -> Figure {
+    println!("{figure}");
+    figure
 }
 
-fn judge<'a>(what: &str, goal: f64, figures: impl Iterator<Item = &'a Figure>) {
-    let least = figures.min_by(|a, b| a.ratio.total_cmp(&b.ratio)).expect("a figure");
-    let met = if least.ratio >= goal { "met" } else { "not met" };
-    println!(
-        "goal, {what} at least {goal} times as fast: {met}, least {:.2}, {}",
-        least.ratio, least.name
-    );
+fn judge_ratio(what: &str, goal: f64, ratio: f64) -> bool {
+    let met = ratio >= goal;
+    println!("goal, {what} at least {goal} times as fast: {}, {ratio:.2}", words_of(met));
+    met
+}
+
+fn judge_solution(scans: f64) -> bool {
+    let met = scans <= SCANS_OF_A_SOLUTION;
+    let word = words_of(met);
+    println!("goal, solution at most {SCANS_OF_A_SOLUTION} times the scan: {word}, {scans:.2}");
+    met
+}
+
+fn words_of(met: bool) -> &'static str {
+    if met {
+        "met"
+    } else {
+        "not met"
+    }
 }

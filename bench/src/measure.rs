@@ -38,7 +38,7 @@ impl Figure {
 impl fmt::Display for Figure {
     fn fmt(&self, out: &mut fmt::Formatter) -> fmt::Result {
         let Figure { name, ours, rust, ratio } = self;
-        write!(out, "{name:<44} {ours:>12.0} {rust:>12.0} {ratio:>9.3}")
+        write!(out, "{name:<48} {ours:>12.0} {rust:>12.0} {ratio:>9.3}")
     }
 }
 
@@ -87,7 +87,7 @@ fn calls_of_a_round(rust: &mut impl FnMut(usize) -> Timed) -> usize {
     calls
 }
 
-fn median(values: impl Iterator<Item = f64>) -> f64 {
+pub fn median(values: impl Iterator<Item = f64>) -> f64 {
     let mut sorted: Vec<f64> = values.collect();
     sorted.sort_by(f64::total_cmp);
     sorted[sorted.len() / 2]

@@ -1,35 +1,45 @@
 //! Replays, plain and strict.
 
-use crate::crafts::{craft, lists, numbers, ours, Lists};
+use crate::cases::Case;
+use crate::crafts::ours;
+use crate::lists::numbers;
 use crate::measure::{compare, timed, Figure};
-use brothlantern::{lent, Mode};
+use brothlantern::{lent, Context, Mode};
 use crafty::{CraftState, Simulator};
 
 /// Ours writes into lent room; the Rust, which takes its list over, gets it ready-made.
-pub fn measure(rounds: usize, which: Lists, length: usize, mode: Mode) -> Figure {
-    let strict = mode == Mode::Strict;
-    let context = craft();
-    let lists = lists(&context, which, length, strict);
-    let our_context = ours(&context);
-    let our_lists: Vec<Vec<u8>> = lists.iter().map(|list| numbers(list)).collect();
+pub fn measure(case: &Case, mode: Mode, rounds: usize) -> Figure {
+    let given = case.given();
+    let our_given = our_given(case);
     let mut room = [0; lent::NUMBERS];
-    let kind = if strict { "strict replay" } else { "replay" };
     compare(
-        format!("{kind} of {length}{}", which.note()),
+        case.name(),
         rounds,
         |calls| {
-            timed(our_lists.iter().cycle().take(calls).collect(), |list| {
-                lent::replay(&our_context, mode, list, &mut room).expect("inside the limits");
+            timed(our_given.iter().cycle().take(calls).collect(), |(context, list)| {
+                lent::replay(context, mode, list, &mut room).expect("inside the limits");
                 sum(&room)
             })
         },
         |calls| {
-            timed(lists.iter().cycle().take(calls).cloned().collect(), |list| match strict {
-                false => sum_of_state(&Simulator::simulate(&context, list).0),
-                true => sum_of_state(&Simulator::replay_strict(&context, list).0),
+            let ready = given.iter().map(|(context, list)| (context, list.clone()));
+            timed(ready.cycle().take(calls).collect(), |(context, list)| match mode {
+                Mode::Plain => sum_of_state(&Simulator::simulate(context, list).0),
+                Mode::Strict => sum_of_state(&Simulator::replay_strict(context, list).0),
             })
         },
     )
+}
+
+pub fn call(case: &Case, mode: Mode, calls: usize) {
+    let mut room = [0; lent::NUMBERS];
+    for (context, list) in our_given(case).iter().cycle().take(calls) {
+        lent::replay(context, mode, list, &mut room).expect("inside the limits");
+    }
+}
+
+fn our_given(case: &Case) -> Vec<(Context, Vec<u8>)> {
+    case.given().iter().map(|(context, list)| (ours(context), numbers(list))).collect()
 }
 
 /// Moves, step, progress, quality and points: what two different states hardly share.

@@ -1,6 +1,7 @@
 //! From the replay program's input to what it prints.
 
-use crate::crafts::{craft, lists, ours, Lists};
+use crate::cases::{Case, Given};
+use crate::crafts::ours;
 use crate::measure::{compare, timed, Figure};
 use brothlantern::lent;
 use crafty::{Action, ActionSet, CraftContext, CraftResult, CraftState};
@@ -9,10 +10,8 @@ use std::fmt::Write;
 /// More than the text of 250 actions needs.
 const ROOM: usize = 32_768;
 
-pub fn measure(rounds: usize, which: Lists, length: usize) -> Figure {
-    let context = craft();
-    let lists = lists(&context, which, length, false);
-    let inputs: Vec<String> = lists.iter().map(|list| input(&context, list)).collect();
+pub fn measure(case: &Case, rounds: usize) -> Figure {
+    let inputs = inputs(case);
     let mut room = [0; ROOM];
     for input in &inputs {
         let written = lent::replay_text(input.as_bytes(), &mut room).expect("inside the limits");
@@ -20,7 +19,7 @@ pub fn measure(rounds: usize, which: Lists, length: usize) -> Figure {
     }
     let given = |calls| inputs.iter().cycle().take(calls).collect();
     compare(
-        format!("text to text of {length}{}", which.note()),
+        case.name(),
         rounds,
         |calls| {
             timed(given(calls), |input: &String| {
@@ -31,7 +30,18 @@ pub fn measure(rounds: usize, which: Lists, length: usize) -> Figure {
     )
 }
 
-fn input(context: &CraftContext, list: &[Action]) -> String {
+pub fn call(case: &Case, calls: usize) {
+    let mut room = [0; ROOM];
+    for input in inputs(case).iter().cycle().take(calls) {
+        lent::replay_text(input.as_bytes(), &mut room).expect("inside the limits");
+    }
+}
+
+fn inputs(case: &Case) -> Vec<String> {
+    case.given().iter().map(input).collect()
+}
+
+fn input((context, list): &Given) -> String {
     let fields: Vec<String> = ours(context).fields().iter().map(u32::to_string).collect();
     let names: Vec<&str> = list.iter().map(Action::name).collect();
     format!("{}\n{}\n", fields.join(" "), names.join(" "))

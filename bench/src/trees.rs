@@ -5,8 +5,9 @@
 //! call follows each call of an entry; the median of what the entry takes longer is the time of its inner function.
 
 use crate::archive::{backpropagate, solution, Node};
-use crate::crafts::{craft, Random};
-use crate::measure::{each, in_rounds, timed, Figure, Times};
+use crate::crafts::Craft;
+use crate::lists::Random;
+use crate::measure::{each, in_rounds, median, timed, Figure, Times};
 use crafty::{Action, CraftState, Simulator};
 
 const RECORDS: usize = 4_096;
@@ -21,19 +22,24 @@ const NO_ACTION: u8 = 31;
 const SUCCESS: u64 = 0;
 const UNKNOWN_NODE: u64 = 8;
 
-pub fn measure(rounds: usize) -> Vec<Figure> {
-    let context = craft();
-    let mut tree = Simulator::of_root(&context);
+pub struct Trees {
+    pub figures: Vec<Figure>,
+    /// How many times as long as the scan a solution takes with it.
+    pub scans_of_a_solution: f64,
+}
+
+pub fn measure(rounds: usize) -> Trees {
+    let contexts = Craft::Lasting.contexts();
+    let mut tree = Simulator::of_root(&contexts[0]);
     let mut random = Random(RECORDS as u64);
     grow(&mut tree, &mut random);
     let mut nodes = records(&mut tree);
     let back = in_rounds(rounds, || back_round(&mut tree, &mut nodes, &mut random));
     let solution = in_rounds(rounds, || solution_round(&tree, &mut nodes));
     check_same(&mut tree, &nodes);
-    [figures("back-propagation", back), figures("solution", solution)]
-        .into_iter()
-        .flatten()
-        .collect()
+    let scans_of_a_solution = median(solution.iter().flatten().map(|call| call.entry / call.scan));
+    let figures = [figures("back-propagation", back), figures("solution", solution)];
+    Trees { figures: figures.into_iter().flatten().collect(), scans_of_a_solution }
 }
 
 /// As a search does: each new record tells its score to all above it.

@@ -1,9 +1,10 @@
 -- Document 02's bounds of a row, of which document 01's table is one: what the engine above the table uses of any row, and never its numbers.
 -- Assumes nothing.
 use mathlib.Core.Path.{_≡_}
-use Prim.Native.Nat.{ℕ}
+use Prim.Native.Nat.{ℕ, _<_}
 use Rattle.action.specs.Actions.{StandardTouch, AdvancedTouch}
 use Rattle.action.specs.Limits.{progressMost, qualityMost, wearMost, priceMost, discountPrice}
+use Rattle.action.specs.Known.{actions}
 use Rattle.action.specs.Amount.{present, AtMost, AtLeast}
 use Rattle.action.specs.Table.{attributesOf}
 use Rattle.action.specs.declared.table.Attributes.{Attributes}
@@ -24,3 +25,11 @@ pub record RowBounds (n : ℕ) (row : Attributes) : Type 0 where
   pub standard : n ≡ StandardTouch → AtLeast discountPrice (row .«cp_cost»)
   pub advanced : n ≡ AdvancedTouch → AtLeast discountPrice (row .«cp_cost»)
   pub shape : SameShape row (attributesOf n)
+
+-- ---- a table: a row for each action's number
+
+abbrev pub Rows : Type 0
+Rows = ℕ → Attributes
+
+abbrev pub RowsIn : Rows → Type 0
+RowsIn rows = (n : ℕ) → n < actions → RowBounds n (rows n)

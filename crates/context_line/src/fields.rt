@@ -4,7 +4,8 @@ ghost use Prim.Native.Nat.{_≤_, _<_};
 ghost use lib.ListN.{length, getD};
 ghost use Rattle.refusal.specs.Judge.{checkedOf, Says};
 ghost use Rattle.context_line.specs.Shape.{fields};
-ghost use Rattle.context_line.specs.Fields.{wordMost, fitsTest, contextOf, numberTests};
+ghost use Rattle.context_line.specs.Fields.{wordMost, fitting, fitsTest, contextOf, numberTests};
+ghost use Rattle.context_line.specs.inner.Fields.{listed, wordMosts};
 ghost use Rattle.context_line.specs.inner.Line.{Fitting};
 ghost use Rattle.context_line.specs.Read.{read as Reads·read};
 use action_set::ActionSet;
@@ -20,51 +21,116 @@ pub enum Read {
 
 pub const FIELDS: usize = 15;
 
+// A number for each field, as a host gives them.
+pub struct Fields {
+    pub player_job_level: u32,
+    pub recipe_job_level: u32,
+    pub base_progress_factor: u32,
+    pub base_quality_factor: u32,
+    pub step_max: u32,
+    pub progress_target: u32,
+    pub starting_quality: u32,
+    pub quality_target: u32,
+    pub durability_max: u32,
+    pub cp_max: u32,
+    pub is_expert: u32,
+    pub action_pool: u32,
+    pub player_is_specialist: u32,
+    pub use_manipulation: u32,
+    pub use_delineation: u32,
+}
+
 // The greatest number of each type that a field has: u32, u8, i8.
 const WORD_MOST: u64 = 4294967295;
 
-const BYTE_MOST: u64 = 255;
+const BYTE_MOST: u32 = 255;
 
-const SIGNED_MOST: u64 = 127;
+const SIGNED_MOST: u32 = 127;
 
 // A flag is 0 or 1, and 1 sets it.
-const FLAG_SET: u64 = 1;
+const FLAG_SET: u32 = 1;
 
-// Field by field.
-const MOSTS: [u64; FIELDS] = [
-    WORD_MOST,
-    WORD_MOST,
-    WORD_MOST,
-    WORD_MOST,
-    BYTE_MOST,
-    WORD_MOST,
-    WORD_MOST,
-    WORD_MOST,
-    SIGNED_MOST,
-    WORD_MOST,
-    FLAG_SET,
-    WORD_MOST,
-    FLAG_SET,
-    FLAG_SET,
-    FLAG_SET,
-];
-
-// Refusal 1: a number that its field does not take.
-fn check_fits(values: &[u64]) -> Checked
-    requires { ⌜ length (now values) ≡ fields ⌝ }
-    ensures { λ r. ⌜ r ≡ checkedOf (fitsTest (now (values .entry))) ⌝ }
+// Refusal 1: a number that its field does not take. One that is a u32 takes any of these.
+fn check_fits(numbers: Fields) -> Checked
+    ensures { λ r. ⌜ r ≡ checkedOf (fitsTest (listed numbers)) ⌝ }
 {
-    let mut i = 0;
-    while i < FIELDS {
-        if values[i] > MOSTS[i] {
-            return Checked::Refused(Refusal::OutsideLimits);
-        }
-        i += 1;
+    let refused = Checked::Refused(Refusal::OutsideLimits);
+    if numbers.step_max > BYTE_MOST {
+        return refused;
+    }
+    if numbers.durability_max > SIGNED_MOST {
+        return refused;
+    }
+    if numbers.is_expert > FLAG_SET {
+        return refused;
+    }
+    if numbers.player_is_specialist > FLAG_SET {
+        return refused;
+    }
+    if numbers.use_manipulation > FLAG_SET {
+        return refused;
+    }
+    if numbers.use_delineation > FLAG_SET {
+        return refused;
     }
     Checked::Passed
 }
 
-// The number of a field that is a u32.
+fn context_of(numbers: Fields) -> CraftContext
+    requires { ⌜ Fitting (listed numbers) ⌝ }
+    ensures { λ r. ⌜ r ≡ contextOf (listed numbers) ⌝ }
+{
+    CraftContext {
+        player_job_level: numbers.player_job_level,
+        recipe_job_level: numbers.recipe_job_level,
+        base_progress_factor: numbers.base_progress_factor,
+        base_quality_factor: numbers.base_quality_factor,
+        step_max: numbers.step_max as u8,
+        progress_target: numbers.progress_target,
+        starting_quality: numbers.starting_quality,
+        quality_target: numbers.quality_target,
+        durability_max: numbers.durability_max as i8,
+        cp_max: numbers.cp_max,
+        is_expert: numbers.is_expert == FLAG_SET,
+        action_pool: ActionSet(numbers.action_pool),
+        player_is_specialist: numbers.player_is_specialist == FLAG_SET,
+        use_manipulation: numbers.use_manipulation == FLAG_SET,
+        use_delineation: numbers.use_delineation == FLAG_SET,
+    }
+}
+
+// The context of these numbers, or refusal 1 for one that is outside its field's type or its limit.
+pub fn from_fields(numbers: Fields) -> Read
+    ensures { λ r. ⌜ Says Reads·read (numberTests (listed numbers)) (Read.Context (contextOf (listed numbers))) r ⌝ }
+{
+    let fits = check_fits(numbers);
+    if let Checked::Refused(x) = fits {
+        return Read::Refused(x);
+    }
+    let context = context_of(numbers);
+    let inside = context.check();
+    if let Checked::Refused(x) = inside {
+        return Read::Refused(x);
+    }
+    Read::Context(context)
+}
+
+// Each number is one of a u32, the greatest type that a field has.
+fn are_words(values: &[u64]) -> bool
+    requires { ⌜ length (now values) ≡ fields ⌝ }
+    ensures { λ r. ⌜ r ≡ fitting wordMosts (now (values .entry)) ⌝ }
+{
+    let mut i = 0;
+    while i < FIELDS {
+        if values[i] > WORD_MOST {
+            return false;
+        }
+        i += 1;
+    }
+    true
+}
+
+// The number in one place, of a u32.
 fn word(values: &[u64], k: usize) -> u32
     requires { ⌜ (k < length (now values)) × (getD (now values) k 0 ≤ wordMost) ⌝ }
     ensures { λ r. ⌜ r ≡ getD (now (values .entry)) k 0 ⌝ }
@@ -72,42 +138,30 @@ fn word(values: &[u64], k: usize) -> u32
     values[k] as u32
 }
 
-fn context_of(values: &[u64]) -> CraftContext
-    requires { ⌜ Fitting (now values) ⌝ }
-    ensures { λ r. ⌜ r ≡ contextOf (now (values .entry)) ⌝ }
-{
-    CraftContext {
-        player_job_level: word(values, 0),
-        recipe_job_level: word(values, 1),
-        base_progress_factor: word(values, 2),
-        base_quality_factor: word(values, 3),
-        step_max: values[4] as u8,
-        progress_target: word(values, 5),
-        starting_quality: word(values, 6),
-        quality_target: word(values, 7),
-        durability_max: values[8] as i8,
-        cp_max: word(values, 9),
-        is_expert: values[10] == FLAG_SET,
-        action_pool: ActionSet(word(values, 11)),
-        player_is_specialist: values[12] == FLAG_SET,
-        use_manipulation: values[13] == FLAG_SET,
-        use_delineation: values[14] == FLAG_SET,
-    }
-}
-
-// The context of fifteen numbers, or refusal 1 for one that is outside its field's type or its limit.
+// The same of any fifteen numbers in their order.
 pub fn from_numbers(values: &[u64]) -> Read
     requires { ⌜ length (now values) ≡ fields ⌝ }
     ensures { λ r. ⌜ Says Reads·read (numberTests (now (values .entry))) (Read.Context (contextOf (now (values .entry)))) r ⌝ }
 {
-    let fits = check_fits(values);
-    if let Checked::Refused(x) = fits {
-        return Read::Refused(x);
+    if !are_words(values) {
+        return Read::Refused(Refusal::OutsideLimits);
     }
-    let context = context_of(values);
-    let inside = context.check();
-    if let Checked::Refused(x) = inside {
-        return Read::Refused(x);
-    }
-    Read::Context(context)
+    let numbers = Fields {
+        player_job_level: word(values, 0),
+        recipe_job_level: word(values, 1),
+        base_progress_factor: word(values, 2),
+        base_quality_factor: word(values, 3),
+        step_max: word(values, 4),
+        progress_target: word(values, 5),
+        starting_quality: word(values, 6),
+        quality_target: word(values, 7),
+        durability_max: word(values, 8),
+        cp_max: word(values, 9),
+        is_expert: word(values, 10),
+        action_pool: word(values, 11),
+        player_is_specialist: word(values, 12),
+        use_manipulation: word(values, 13),
+        use_delineation: word(values, 14),
+    };
+    from_fields(numbers)
 }

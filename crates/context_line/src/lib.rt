@@ -3,7 +3,8 @@ mod fields;
 mod line;
 mod runs;
 
+pub use fields::Fields;
 pub use fields::Read;
-pub use fields::from_numbers;
+pub use fields::from_fields;
 pub use line::line_end;
 pub use line::read;

@@ -56,8 +56,9 @@ pub fn step(context: CraftContext, state: CraftState, mode: Mode, n: u8) -> Step
     if let Checked::Refused(x) = known {
         return Stepped::Refused(x);
     }
-    if moves::is_legal(context, state, mode, n) {
-        return Stepped::To(step::execute(context, state, n));
+    let row = action::attributes_of(n);
+    if moves::is_legal(context, state, mode, n, row) {
+        return Stepped::To(step::execute_single(context, state, n, row));
     }
     Stepped::Refused(Refusal::IllegalAction)
 }

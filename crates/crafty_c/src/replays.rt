@@ -1,9 +1,8 @@
 // The replay of a list of numbers.
 ghost use mathlib.Core.Path.{_≡_};
 ghost use mathlib.Core.List.{[], _∷_};
-ghost use lib.ListN.{length};
 ghost use Rattle.craft_context.specs.Limits.{ContextIn};
-ghost use Rattle.context_line.specs.Shape.{fields};
+ghost use Rattle.context_line.specs.inner.Fields.{listed};
 ghost use Rattle.moves.specs.Modes.{modeOf};
 ghost use Rattle.crafty_c.specs.Reports.{Reports, TellsNumbers};
 use super::answer::CraftyAnswer;
@@ -12,6 +11,7 @@ use super::answer::refused;
 use super::numbers::NUMBERS;
 use super::numbers::numbers;
 use super::numbers::put_numbers;
+use context_line::Fields;
 use context_line::Read;
 use craft_context::CraftContext;
 use moves::Mode;
@@ -36,11 +36,10 @@ fn report(context: CraftContext, mode: Mode, list: &[u8], out: &mut [u32]) -> Cr
 }
 
 // In a context given by the numbers of its fields.
-fn replay(values: &[u64], mode: Mode, list: &[u8], out: &mut [u32]) -> CraftyAnswer
-    requires { ⌜ length (now values) ≡ fields ⌝ }
-    ensures { λ r. ⌜ TellsNumbers (now (values .entry)) mode (now (list .entry)) (now (out .entry)) r (now (out .exit)) ⌝ }
+fn replay(numbers: Fields, mode: Mode, list: &[u8], out: &mut [u32]) -> CraftyAnswer
+    ensures { λ r. ⌜ TellsNumbers (listed numbers) mode (now (list .entry)) (now (out .entry)) r (now (out .exit)) ⌝ }
 {
-    let read = context_line::from_numbers(values);
+    let read = context_line::from_fields(numbers);
     match read {
         Read::Context(context) => report(context, mode, list, out),
         Read::Refused(x) => refused(x),
@@ -70,23 +69,23 @@ pub extern "C" fn crafty_replay(
 ) -> CraftyAnswer
     ensures { λ r. ⌜ TellsNumbers («player_job_level» ∷ «recipe_job_level» ∷ «base_progress_factor» ∷ «base_quality_factor» ∷ «step_max» ∷ «progress_target» ∷ «starting_quality» ∷ «quality_target» ∷ «durability_max» ∷ «cp_max» ∷ «is_expert» ∷ «action_pool» ∷ «player_is_specialist» ∷ «use_manipulation» ∷ «use_delineation» ∷ []) (modeOf strict) (now (list .entry)) (now (out .entry)) r (now (out .exit)) ⌝ }
 {
-    let values = [
-        player_job_level as u64,
-        recipe_job_level as u64,
-        base_progress_factor as u64,
-        base_quality_factor as u64,
-        step_max as u64,
-        progress_target as u64,
-        starting_quality as u64,
-        quality_target as u64,
-        durability_max as u64,
-        cp_max as u64,
-        is_expert as u64,
-        action_pool as u64,
-        player_is_specialist as u64,
-        use_manipulation as u64,
-        use_delineation as u64,
-    ];
+    let numbers = Fields {
+        player_job_level,
+        recipe_job_level,
+        base_progress_factor,
+        base_quality_factor,
+        step_max,
+        progress_target,
+        starting_quality,
+        quality_target,
+        durability_max,
+        cp_max,
+        is_expert,
+        action_pool,
+        player_is_specialist,
+        use_manipulation,
+        use_delineation,
+    };
     let mode = moves::mode_of(strict);
-    replay(&values, mode, list, out)
+    replay(numbers, mode, list, out)
 }

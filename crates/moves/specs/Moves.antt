@@ -1,12 +1,13 @@
 -- Document 01, 'Legal moves': the test of one candidate in a mode, and the set of those of the pool that pass; none once the craft is over.
 -- Assumes nothing.
-use mathlib.Core.Bool.{Bool, cond, _&&_, _||_}
+use mathlib.Core.Bool.{Bool, cond, not, _&&_, _||_}
 use Prim.Native.Nat.{ℕ}
 use lib.Dec.{eqb, leb}
 use lib.IntN.{pos}
 use lib.Signed.{leZ}
 use Rattle.laws.specs.Bits.{has}
 use Rattle.action.specs.Actions as A
+use Rattle.action.specs.Bounds.{Rows}
 use Rattle.action.specs.Table.{attributesOf}
 use Rattle.action.specs.declared.table.Attributes.{Attributes}
 use Rattle.action_set.specs.Sets.{keepOf}
@@ -26,24 +27,41 @@ strictlyOf c s n row =
     && ownRule c s n row
     && strictRule c s n)
 
--- one candidate by any row
+-- one candidate by a row
 unfoldable pub allowedOf : CraftContext → CraftState → Mode → ℕ → Attributes → Bool
 allowedOf c s mode n row =
     affords s n (row .«cp_cost»)
     && mayImprove c s (row .«quality_efficiency»)
     && cond (mode .strict) (strictlyOf c s n row) (ownRule c s n row)
 
--- by its row of the table
-abbrev pub allowsOf : CraftContext → CraftState → Mode → ℕ → Bool
-allowsOf c s mode n = allowedOf c s mode n (attributesOf n)
-
 -- the pool has it, and it passes
-abbrev pub passesOf : CraftContext → CraftState → Mode → ℕ → Bool
-passesOf c s mode n = has (c .«action_pool» .0) n && allowsOf c s mode n
+abbrev pub passedOf : CraftContext → CraftState → Mode → ℕ → Attributes → Bool
+passedOf c s mode n row = has (c .«action_pool» .0) n && allowedOf c s mode n row
 
 -- the craft is over: progress at its target, no step left, or no durability
 abbrev pub ended : CraftContext → CraftState → Bool
 ended c s = leb (c .«progress_target») (s .progress) || leb (c .«step_max») (s .step) || leZ (s .durability) (pos 0)
 
-unfoldable pub movesOf : CraftContext → CraftState → Mode → ℕ
-movesOf c s mode = cond (ended c s) 0 (keepOf (allowsOf c s mode) (c .«action_pool» .0))
+-- legal in any state, by its row
+abbrev pub legalOf : CraftContext → CraftState → Mode → ℕ → Attributes → Bool
+legalOf c s mode n row = not (ended c s) && passedOf c s mode n row
+
+-- ---- by any table
+
+-- one candidate by its row
+abbrev pub allowsBy : Rows → CraftContext → CraftState → Mode → ℕ → Bool
+allowsBy rows c s mode n = allowedOf c s mode n (rows n)
+
+abbrev pub passesBy : Rows → CraftContext → CraftState → Mode → ℕ → Bool
+passesBy rows c s mode n = passedOf c s mode n (rows n)
+
+unfoldable pub movesBy : Rows → CraftContext → CraftState → Mode → ℕ
+movesBy rows c s mode = cond (ended c s) 0 (keepOf (allowsBy rows c s mode) (c .«action_pool» .0))
+
+-- ---- by the table of action.rs
+
+abbrev pub allowsOf : CraftContext → CraftState → Mode → ℕ → Bool
+allowsOf = allowsBy attributesOf
+
+abbrev pub movesOf : CraftContext → CraftState → Mode → ℕ
+movesOf = movesBy attributesOf

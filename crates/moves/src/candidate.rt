@@ -35,7 +35,8 @@ fn may_improve(context: CraftContext, state: CraftState, attribute: Amount) -> b
     state.quality < context.quality_target
 }
 
-fn allowed(context: CraftContext, state: CraftState, mode: Mode, n: u8, row: Attributes) -> bool
+// One candidate by its row.
+pub fn allowed(context: CraftContext, state: CraftState, mode: Mode, n: u8, row: Attributes) -> bool
     requires { ⌜ CraftIn context state × RowBounds n row ⌝ }
     ensures { λ r. ⌜ r ≡ allowedOf context state mode n row ⌝ }
 {
@@ -50,7 +51,7 @@ fn allowed(context: CraftContext, state: CraftState, mode: Mode, n: u8, row: Att
     false
 }
 
-// The row is looked up here and handed down.
+// By its row of the table.
 pub fn allows(context: CraftContext, state: CraftState, mode: Mode, n: u8) -> bool
     requires { ⌜ CraftIn context state × (n < actions) ⌝ }
     ensures { λ r. ⌜ r ≡ allowsOf context state mode n ⌝ }

@@ -1,13 +1,15 @@
 // The legal moves of a state, and whether one candidate is among them.
 ghost use mathlib.Core.Path.{_≡_};
 ghost use Prim.Native.Nat.{_<_};
-ghost use Rattle.laws.specs.Bits.{has};
+ghost use Rattle.action.specs.Bounds.{RowBounds};
 ghost use Rattle.action.specs.Known.{actions};
 ghost use Rattle.action_set.specs.Sets.{SetIn, keepOf};
 ghost use Rattle.craft_state.specs.Inside.{CraftIn};
-ghost use Rattle.moves.specs.Moves.{ended, allowsOf, passesOf, movesOf};
+ghost use Rattle.moves.specs.Moves.{ended, passedOf, legalOf, allowsOf, movesOf};
+use super::candidate::allowed;
 use super::candidate::allows;
 use super::mode::Mode;
+use action::Attributes;
 use action_set::bits;
 use craft_context::CraftContext;
 use craft_state::CraftState;
@@ -39,29 +41,33 @@ fn keep_allowed(context: CraftContext, state: CraftState, mode: Mode, set: u32) 
     kept
 }
 
-// One candidate of a state that has not ended: the pool has it, and it passes the test. It is walked over alone, so that the test has one
-// caller and the compiler makes one piece of both.
-pub fn passes(context: CraftContext, state: CraftState, mode: Mode, n: u8) -> bool
-    requires { ⌜ CraftIn context state × (n < actions) ⌝ }
-    ensures { λ r. ⌜ r ≡ passesOf context state mode n ⌝ }
+// One candidate of a state that has not ended, by its row: the pool has it, and it passes the test.
+pub fn passes(context: CraftContext, state: CraftState, mode: Mode, n: u8, row: Attributes) -> bool
+    requires { ⌜ CraftIn context state × (n < actions) × RowBounds n row ⌝ }
+    ensures { λ r. ⌜ r ≡ passedOf context state mode n row ⌝ }
 {
     let pool = context.action_pool;
     if bits::holds(pool.0, n) {
-        let kept = keep_allowed(context, state, mode, bits::bit(n));
-        return bits::holds(kept, n);
+        return allowed(context, state, mode, n, row);
     }
     false
 }
 
-// One candidate of any state: the same as looking it up in the moves.
-pub fn is_legal(context: CraftContext, state: CraftState, mode: Mode, n: u8) -> bool
-    requires { ⌜ CraftIn context state × (n < actions) ⌝ }
-    ensures { λ r. ⌜ r ≡ has (movesOf context state mode) n ⌝ }
+// One candidate of any state, by its row: by `has-moves` the same as looking it up in the moves.
+pub fn is_legal(
+    context: CraftContext,
+    state: CraftState,
+    mode: Mode,
+    n: u8,
+    row: Attributes,
+) -> bool
+    requires { ⌜ CraftIn context state × (n < actions) × RowBounds n row ⌝ }
+    ensures { λ r. ⌜ r ≡ legalOf context state mode n row ⌝ }
 {
     if has_ended(context, state) {
         return false;
     }
-    passes(context, state, mode, n)
+    passes(context, state, mode, n, row)
 }
 
 // The walk over the pool.

@@ -9,7 +9,6 @@ mod sets;
 mod strict;
 
 pub use at_once::moves_at_once;
-pub use candidate::allows;
 pub use legal::has_ended;
 pub use legal::is_legal;
 pub use legal::legal_moves;

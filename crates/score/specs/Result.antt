@@ -7,9 +7,11 @@ use lib.Dec.{T, eqb, leb}
 use lib.Ieee.{Float, isNan}
 use lib.IntN.{pos}
 use lib.Signed.{leZ}
+use Rattle.action.specs.Bounds.{Rows}
+use Rattle.action.specs.Table.{attributesOf}
 use Rattle.craft_context.specs.declared.context.CraftContext.{CraftContext}
 use Rattle.craft_state.specs.declared.state.CraftState.{CraftState}
-use Rattle.moves.specs.Moves.{movesOf}
+use Rattle.moves.specs.Moves.{movesBy}
 use Rattle.moves.specs.declared.mode.Mode.{Mode}
 use Rattle.score.specs.Score.{scoreOf}
 use Rattle.score.specs.declared.result.CraftResult.{CraftResult}
@@ -23,8 +25,12 @@ judgedBy c s moves =
     (cond (leb (c .«step_max») (s .step)) R.MaxStepsFailure
     (cond (eqb moves 0) R.InvalidActionFailure R.Continuing)))
 
+-- by any table, and by the table of action.rs
+abbrev pub resultBy : Rows → CraftContext → CraftState → Mode → CraftResult
+resultBy rows c s mode = judgedBy c s (movesBy rows c s mode)
+
 abbrev pub resultOf : CraftContext → CraftState → Mode → CraftResult
-resultOf c s mode = judgedBy c s (movesOf c s mode)
+resultOf = resultBy attributesOf
 
 -- ---- document 01's number and value for each case
 

@@ -5,8 +5,8 @@ use mathlib.Core.List.{List, [], _∷_}
 use Prim.Native.Nat.{ℕ, _+_}
 use lib.Dec.{eqb}
 use Rattle.action.specs.Actions as A
+use Rattle.action.specs.Bounds.{Rows}
 use Rattle.action.specs.Price.{pointsOf}
-use Rattle.action.specs.Table.{attributesOf}
 use Rattle.craft_state.specs.declared.state.Last.{Last}
 use Rattle.craft_state.specs.declared.state.Last.the-variants as L
 use Rattle.craft_state.specs.Limits.{wasOf}
@@ -18,16 +18,17 @@ discountedAfter older last n =
     eqb n A.StandardTouch && wasOf last A.BasicTouch
     || eqb n A.AdvancedTouch && (wasOf last A.Observe || wasOf last A.StandardTouch && wasOf older A.BasicTouch)
 
-abbrev pub priceAfter : Last → Last → ℕ → ℕ
-priceAfter older last n = pointsOf (discountedAfter older last n) (attributesOf n .«cp_cost»)
+-- by any table
+abbrev pub priceAfter : Rows → Last → Last → ℕ → ℕ
+priceAfter rows older last n = pointsOf (discountedAfter older last n) (rows n .«cp_cost»)
 
-unfoldable pub pricesAfter : Last → Last → List ℕ → ℕ
-pricesAfter older last [] = 0
-pricesAfter older last (n ∷ rest) = priceAfter older last n + pricesAfter last (L.Was n) rest
+unfoldable pub pricesAfter : Rows → Last → Last → List ℕ → ℕ
+pricesAfter rows older last [] = 0
+pricesAfter rows older last (n ∷ rest) = priceAfter rows older last n + pricesAfter rows last (L.Was n) rest
 
 -- of a whole list
-abbrev pub pricesOf : List ℕ → ℕ
-pricesOf list = pricesAfter L.Nothing L.Nothing list
+abbrev pub pricesBy : Rows → List ℕ → ℕ
+pricesBy rows list = pricesAfter rows L.Nothing L.Nothing list
 
 -- the actions other than QuickInnovation
 unfoldable pub stepsIn : List ℕ → ℕ

@@ -4,13 +4,14 @@ ghost use mathlib.Core.Bool.{true, cond};
 ghost use Prim.Native.Nat.{_≤_};
 ghost use lib.ListN.{length};
 ghost use Rattle.action.specs.Known.{knownFront};
-ghost use Rattle.action.specs.Table.{attributesOf};
+ghost use Rattle.action.specs.Bounds.{RowBounds};
 ghost use Rattle.craft_context.specs.Limits.{ContextIn};
-ghost use Rattle.craft_state.specs.Inside.{CraftIn};
 ghost use Rattle.step.specs.inner.Asked.{Playable};
-ghost use Rattle.step.specs.Step.{executeOf};
+ghost use Rattle.step.specs.Step.{executedOf};
 ghost use Rattle.score.specs.Result.{ScoreIsNumber};
-ghost use Rattle.simulator.specs.Replay.{stopOf, slipOf, replayOf};
+ghost use Rattle.simulator.specs.Replay.{replayOf};
+ghost use Rattle.simulator.specs.inner.Settled.{settledBy};
+use action::Attributes;
 use action_set::ActionSet;
 use craft_context::CraftContext;
 use craft_state::CraftState;
@@ -26,65 +27,58 @@ pub struct Replay {
     pub executed: usize,
 }
 
-// The craft has ended, or the list. The moves are worked out only where a replay stops, here or in `slip`.
-fn stop(context: CraftContext, mode: Mode, state: CraftState, executed: usize) -> Replay
-    requires { ⌜ CraftIn context state ⌝ }
-    ensures { λ r. ⌜ (r ≡ stopOf context mode state executed) × ScoreIsNumber (r .result) ⌝ }
-{
-    let moves = moves::legal_moves(context, state, mode);
-    Replay {
-        state,
-        moves: ActionSet(moves),
-        result: score::judge(context, state, moves),
-        executed,
-    }
-}
-
-// The next action is not among the moves.
-fn slip(context: CraftContext, mode: Mode, state: CraftState, executed: usize) -> Replay
-    requires { ⌜ CraftIn context state ⌝ }
-    ensures { λ r. ⌜ (r ≡ slipOf context mode state executed) × ScoreIsNumber (r .result) ⌝ }
-{
-    Replay {
-        state,
-        moves: ActionSet(moves::legal_moves(context, state, mode)),
-        result: CraftResult::InvalidActionFailure,
-        executed,
-    }
-}
-
 // The state after a legal action; an illegal one leaves it as it was.
-fn play(context: CraftContext, state: CraftState, n: u8, legal: bool) -> CraftState
-    requires { ⌜ (legal ≡ true → Playable context state n (attributesOf n)) ⌝ }
-    ensures { λ r. ⌜ r ≡ cond legal (executeOf context state n) state ⌝ }
+fn play(context: CraftContext, state: CraftState, n: u8, row: Attributes, legal: bool) -> CraftState
+    requires { ⌜ (legal ≡ true → Playable context state n row) × RowBounds n row ⌝ }
+    ensures { λ r. ⌜ r ≡ cond legal (executedOf context state n row) state ⌝ }
 {
     if legal {
-        return step::execute(context, state, n);
+        return step::execute(context, state, n, row);
     }
     state
 }
 
-// One loop, broken with its report where it stops.
+// What the loop was broken with, once the moves are known: a craft that goes on with none left is a failure.
+fn settled(result: CraftResult, moves: u32) -> CraftResult
+    requires { ⌜ ScoreIsNumber result ⌝ }
+    ensures { λ r. ⌜ (r ≡ settledBy result moves) × ScoreIsNumber r ⌝ }
+{
+    if let CraftResult::Continuing = result {
+        if moves == 0 {
+            return CraftResult::InvalidActionFailure;
+        }
+    }
+    result
+}
+
+// One loop, broken with its result where it stops; the moves are worked out there alone.
 pub fn execute_actions(context: CraftContext, mode: Mode, list: &[u8]) -> Replay
     requires { ⌜ ContextIn context × (length (now list) ≤ knownFront (now list)) ⌝ }
     ensures { λ r. ⌜ (r ≡ replayOf context mode (now (list .entry))) × ScoreIsNumber (r .result) ⌝ }
 {
     let mut state = fresh(context);
     let mut i = 0;
-    let report = loop {
+    let result = loop {
         if moves::has_ended(context, state) {
-            break stop(context, mode, state, i);
+            break score::judge(context, state, 0);
         }
         if i >= list.len() {
-            break stop(context, mode, state, i);
+            break CraftResult::Continuing;
         }
         let n = list[i];
-        let legal = moves::passes(context, state, mode, n);
-        state = play(context, state, n, legal);
+        let row = action::attributes_of(n);
+        let legal = moves::passes(context, state, mode, n, row);
         if !legal {
-            break slip(context, mode, state, i);
+            break CraftResult::InvalidActionFailure;
         }
+        state = play(context, state, n, row, legal);
         i += 1;
     };
-    report
+    let moves = moves::moves_at_once(context, state, mode);
+    Replay {
+        state,
+        moves: ActionSet(moves),
+        result: settled(result, moves),
+        executed: i,
+    }
 }

@@ -4,6 +4,7 @@ use mathlib.Core.Bool.{cond}
 use Prim.Native.Nat.{ℕ}
 use lib.Dec.{eqb}
 use Rattle.action.specs.Actions as A
+use Rattle.action.specs.Bounds.{Rows}
 use Rattle.action.specs.Table.{attributesOf}
 use Rattle.action.specs.declared.table.Amount.{Amount}
 use Rattle.action.specs.declared.table.Attributes.{Attributes}
@@ -66,7 +67,7 @@ affectedOf c s n =
     (withPerfection (perfectedBy n (s .«trained_perfection_active»))
     (buffedOf s n)))
 
--- all nine, by any row
+-- all nine, by a row
 unfoldable pub executedOf : CraftContext → CraftState → ℕ → Attributes → CraftState
 executedOf c s n row =
     let begun = begunOf s n in
@@ -77,6 +78,9 @@ executedOf c s n row =
     let paid = paidOf refreshed n (row .«cp_cost») in
     affectedOf c (timedOf (combinedOf paid n) n) n
 
--- by the action's row of the table
+-- by the action's row of any table, and of the table of action.rs
+abbrev pub executeBy : Rows → CraftContext → CraftState → ℕ → CraftState
+executeBy rows c s n = executedOf c s n (rows n)
+
 abbrev pub executeOf : CraftContext → CraftState → ℕ → CraftState
-executeOf c s n = executedOf c s n (attributesOf n)
+executeOf = executeBy attributesOf

@@ -9,3 +9,4 @@ mod whole;
 pub use durability::wears;
 pub use quality::on_basic_touch;
 pub use whole::execute;
+pub use whole::execute_single;

@@ -32,7 +32,8 @@ pub fn put_rows(
     let mut end = at;
     let mut i = 0;
     while i < part.len() {
-        state = step::execute(context, state, part[i]);
+        let n = part[i];
+        state = step::execute_single(context, state, n, action::attributes_of(n));
         end = put_row(context, state, out, end);
         i += 1;
     }

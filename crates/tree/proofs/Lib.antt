@@ -6,3 +6,4 @@ pub mod Turns
 pub mod TypesGrow
 pub mod TypesPaths
 pub mod TypesEntries
+pub mod TypesFew

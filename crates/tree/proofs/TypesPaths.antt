@@ -10,7 +10,7 @@ use denote.Laws.{Is}
 use denote.Struct.Laws as LL
 use Rattle.text.specs.Over.{over, Put}
 use Rattle.tree.specs.declared.node.Node.{Node}
-use Rattle.tree.specs.Tree.{isChild, childrenOf, bestOf, solutionOf, endOf}
+use Rattle.tree.specs.Tree.{nodeAt, isChild, childrenOf, bestOf, solutionOf, endOf}
 use Rattle.tree.specs.inner.Best.{noBest, pickOf}
 use Rattle.tree.specs.inner.Sound.{SoundTree}
 use Rattle.tree.proofs.node.Node as T
@@ -33,7 +33,7 @@ abbrev pub pick′ : PlainFn
 pick′ = record { takes = best′ ∷ usize′ ∷ node′ ∷ usize′ ∷ []; gives = best′; asks = nothing-asked; says = λ a r. r ≡ pickOf (a .0) (a .1 .0) (a .1 .1 .0) (a .1 .1 .1 .0) }
 
 abbrev pub best-child′ : ShrFn T.the-row
-best-child′ = record { takes = usize′ ∷ usize′ ∷ []; gives = best′; asks = that (λ xs a. SoundTree xs (a .0)); says = λ xs a r. r .at ≡ bestOf (a .0) xs (a .1 .0) }
+best-child′ = record { takes = usize′ ∷ usize′ ∷ []; gives = best′; asks = that (λ xs a. SoundTree xs (a .0) × (a .1 .0 < a .0)); says = λ xs a r. r .at ≡ bestOf (a .0) xs (a .1 .0) }
 
 abbrev pub solution-len′ : ShrFn T.the-row
 solution-len′ = record { takes = usize′ ∷ []; gives = usize′; asks = that (λ xs a. SoundTree xs (a .0)); says = λ xs a r. r ≡ length (solutionOf xs (a .0)) }
@@ -44,6 +44,14 @@ action-fits n is = LL.owed T.the-type T′.the-laws n _ is .1 .0 .1
 
 abbrev pub put-byte′ : MutFn (UInt w8)
 put-byte′ = record { takes = usize′ ∷ u8′ ∷ []; gives = usize′; asks = that (λ xs a. a .0 < length xs); says = λ xs a r zs. Put xs (a .0) (a .1 .0 ∷ []) r zs }
+
+abbrev pub put-action′ : BothFn T.the-row (UInt w8)
+put-action′ = record {
+  takes = usize′ ∷ usize′ ∷ [];
+  gives = usize′;
+  asks = that (λ x a. (a .1 .0 < length (x .0)) × (a .0 < length (x .1)));
+  says = λ xs os a r zs. Put os (a .0) (nodeAt xs (a .1 .0) .action ∷ []) r zs;
+}
 
 abbrev pub put-solution′ : BothFn T.the-row (UInt w8)
 put-solution′ = record {

@@ -6,7 +6,9 @@ pub mod Climb
 pub mod Back
 pub mod Children
 pub mod Best
+pub mod Follow
 pub mod Solution
+pub mod Few
 pub mod Descent
 pub mod Steps
 pub mod Grow

@@ -29,7 +29,7 @@ pub fn is_child(k: usize, n: Node, parent: usize) -> bool
 }
 
 // Of equal children the last is taken.
-fn is_better(best: Best, n: Node) -> bool
+pub fn is_better(best: Best, n: Node) -> bool
     ensures { λ r. ⌜ r ≡ isBetter best n ⌝ }
 {
     (best.at == 0) | (n.max_score >= best.max_score)

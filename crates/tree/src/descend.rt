@@ -1,9 +1,10 @@
 // The way down from record 0, by the best child of each: what `solution` writes.
 ghost use mathlib.Core.Path.{_≡_};
-ghost use Prim.Native.Nat.{_≤_};
+ghost use mathlib.Core.List.{[], _∷_};
+ghost use Prim.Native.Nat.{_≤_, _<_};
 ghost use lib.ListN.{length};
-ghost use Rattle.text.specs.Over.{over};
-ghost use Rattle.tree.specs.Tree.{bestOf, solutionOf, endOf};
+ghost use Rattle.text.specs.Over.{Put, over};
+ghost use Rattle.tree.specs.Tree.{nodeAt, bestOf, solutionOf, endOf};
 ghost use Rattle.tree.specs.inner.Sound.{SoundTree};
 use super::best::Best;
 use super::best::pick;
@@ -11,12 +12,13 @@ use super::node::Node;
 use super::records::node_at;
 use text::put_byte;
 
+// A child is above its parent, so the search starts after it.
 pub fn best_child(nodes: &[Node], count: usize, parent: usize) -> Best
-    requires { ⌜ SoundTree (now nodes) count ⌝ }
+    requires { ⌜ SoundTree (now nodes) count × (parent < count) ⌝ }
     ensures { λ r. ⌜ r .at ≡ bestOf count (now (nodes .entry)) parent ⌝ }
 {
     let mut best = Best::none();
-    let mut i = 0;
+    let mut i = parent + 1;
     while i < count {
         let n = node_at(nodes, i);
         best = pick(best, i, n, parent);
@@ -39,6 +41,15 @@ pub fn solution_len(nodes: &[Node], count: usize) -> usize
     len
 }
 
+// Stores the action of record k, and answers the place after it.
+pub fn put_action(nodes: &[Node], out: &mut [u8], at: usize, k: usize) -> usize
+    requires { ⌜ (k < length (now nodes)) × (at < length (now out)) ⌝ }
+    ensures { λ r. ⌜ Put (now (out .entry)) at (nodeAt (now (nodes .entry)) k .action ∷ []) r (now (out .exit)) ⌝ }
+{
+    let n = node_at(nodes, k);
+    put_byte(out, at, n.action)
+}
+
 // Stores the actions of the way down, and answers its last record.
 pub fn put_solution(nodes: &[Node], out: &mut [u8], count: usize) -> usize
     requires { ⌜ SoundTree (now nodes) count × (length (solutionOf (now nodes) count) ≤ length (now out)) ⌝ }
@@ -49,8 +60,7 @@ pub fn put_solution(nodes: &[Node], out: &mut [u8], count: usize) -> usize
     let mut best = best_child(nodes, count, last);
     while best.at != 0 {
         last = best.at;
-        let n = node_at(nodes, last);
-        at = put_byte(out, at, n.action);
+        at = put_action(nodes, out, at, last);
         best = best_child(nodes, count, last);
     }
     last

@@ -3,6 +3,7 @@ mod back;
 mod best;
 mod climb;
 mod descend;
+mod few;
 mod grow;
 mod listing;
 mod node;

@@ -4,6 +4,8 @@ ghost use lib.Dec.{leb};
 ghost use Rattle.tree.specs.Paths.{Lists, Solves};
 use super::descend::put_solution;
 use super::descend::solution_len;
+use super::few::is_few;
+use super::few::solve_few;
 use super::grow::is_used;
 use super::listing::count_children;
 use super::listing::put_children;
@@ -24,7 +26,7 @@ pub enum Solved {
 }
 
 // Whether lent room is as long as what is to be written.
-fn has_room(room: usize, needed: usize) -> bool
+pub fn has_room(room: usize, needed: usize) -> bool
     ensures { λ r. ⌜ r ≡ leb needed room ⌝ }
 {
     needed <= room
@@ -58,6 +60,9 @@ pub fn solution(nodes: &[Node], out: &mut [u8], count: usize) -> Solved
     let sound = is_sound(nodes, count);
     if !sound {
         return Solved::Refused(Refusal::UnsoundTree);
+    }
+    if is_few(count) {
+        return solve_few(nodes, out, count);
     }
     let needed = solution_len(nodes, count);
     let fits = has_room(out.len(), needed);

@@ -9,5 +9,6 @@ pub mod Enums
 pub mod Lend
 pub mod Reborrow
 pub mod Elements
+pub mod Arrays
 pub mod Calls
 pub mod Meets

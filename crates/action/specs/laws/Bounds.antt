@@ -12,7 +12,7 @@ use Rattle.action.specs.Limits.{progressMost, qualityMost, wearMost, pri
 use Rattle.action.specs.Known.{actions}
 use Rattle.action.specs.Amount.{AtMost, AtLeast}
 use Rattle.action.specs.Table.{actionOf, attributesOf}
-use Rattle.action.specs.Bounds.{RowBounds}
+use Rattle.action.specs.Bounds.{RowBounds, RowsIn}
 use Rattle.action.specs.Price.{priceOf}
 use Rattle.action.specs.declared.table.Amount.{Amount}
 use Rattle.action.specs.declared.table.Amount.the-variants.{Of, Nothing}
@@ -34,7 +34,7 @@ each : (most : ℕ) (field : Attributes → Amount) → T (below (λ n. within m
 each most field t n h = within-at-most most (field (attributesOf n)) (below-at (λ n. within most (field (attributesOf n))) actions n h t)
 
 -- THE theorem of the table: each row of ours has the bounds
-pub rows-bounded : (n : ℕ) → n < actions → RowBounds n (attributesOf n)
+pub rows-bounded : RowsIn attributesOf
 unfolding actionOf
 rows-bounded n h =
     record {

@@ -1,22 +1,24 @@
 -- Laws of numbers that fit a context's fields.
 -- Assumes nothing.
-use mathlib.Core.Path.{_≡_}
-use mathlib.Core.Bool.{true, false}
+use mathlib.Core.Path.{_≡_, refl, sym, ap, _∙_}
+use mathlib.Core.Bool.{true, false, _&&_}
+use mathlib.Core.Logic.{_⊎_, inl, inr}
 use mathlib.Core.List.{List, [], _∷_}
 use Prim.Native.Nat.{ℕ, zero, suc, _+_, _≤_, _<_}
 use native.Mathlib.Nat.{not-suc-le-zero, le-of-suc-le-suc}
 use native.Mathlib.Omega.{arith}
 use borrow.Author.Tests.{le-leb, lt-leb, leb-true}
 use lib.Dec.{leb}
-use lib.ListN.{length, drop, getD, drop-of-length-le}
+use lib.ListN.{length, drop, getD, replicate, drop-of-length-le, length-replicate}
 use Rattle.laws.specs.laws.Lists.{drop-at}
-use Rattle.laws.specs.laws.Tests.{both}
+use Rattle.laws.specs.laws.Tests.{true-false, both, either}
 use Rattle.refusal.specs.declared.Checked.{Checked}
 use Rattle.refusal.specs.declared.Checked.the-variants.{Passed}
 use Rattle.refusal.specs.Judge.{checkedOf}
 use Rattle.refusal.specs.laws.Judge.{alone, shown}
 use Rattle.context_line.specs.Shape.{fields}
-use Rattle.context_line.specs.Fields.{mosts, fitting, fitsTest}
+use Rattle.context_line.specs.Fields.{wordMost, mosts, fitting, fitsTest}
+use Rattle.context_line.specs.inner.Fields.{wordMosts}
 use Rattle.context_line.specs.inner.Line.{Fitting}
 
 -- a scan at place i: a number that fits, one that does not, no number left
@@ -45,3 +47,39 @@ at-most {values} f k h = (omega (arith, f .count), fits-each mosts values (f .fi
 
 pub fits-shown : (values : List ℕ) {checked : Checked} → checked ≡ checkedOf (fitsTest values) → checked ≡ Passed → fitting mosts values ≡ true
 fits-shown values e p = shown (fitsTest values) [] (alone (fitsTest values) e) p .0
+
+-- ---- numbers of a u32, the greatest type
+
+get-same : (n m k : ℕ) → k < n → getD (replicate n m) k 0 ≡ m
+get-same zero m k h = absurd (not-suc-le-zero h)
+get-same (suc n) m zero h = refl
+get-same (suc n) m (suc k) h = get-same n m k (le-of-suc-le-suc h)
+
+pub word-most : {k : ℕ} → k < fields → getD wordMosts k 0 ≡ wordMost
+word-most {k} h = get-same fields wordMost k h
+
+-- what does not fit the greater does not fit the less
+below : (great less values : List ℕ) → length great ≤ length less → fitting great less ≡ true → fitting great values ≡ false → fitting less values ≡ false
+unfolding fitting
+below [] less values h g e = absurd (true-false e)
+below (m ∷ great) [] values h g e = absurd (not-suc-le-zero h)
+below (m ∷ great) (k ∷ less) [] h g e = absurd (true-false e)
+below (m ∷ great) (k ∷ less) (n ∷ values) h g e = by (either (leb n k)) (below great less values (le-of-suc-le-suc h) (both (leb k m) (fitting great less) g .1))
+  where
+    by : (leb n k ≡ true) ⊎ (leb n k ≡ false) → (fitting great values ≡ false → fitting less values ≡ false) → leb n k && fitting less values ≡ false
+    by (inl t) later =
+        let l : leb n m ≡ true = le-leb n m (omega (arith, leb-true n k t, leb-true k m (both (leb k m) (fitting great less) g .0))) in
+        rw t (later (rw l at e))
+    by (inr t) later = rw t
+
+pub no-words : (values : List ℕ) → fitting wordMosts values ≡ false → fitting mosts values ≡ false
+unfolding fitting
+no-words values e = below wordMosts mosts values (omega arith) refl e
+
+-- fifteen numbers, each in its place
+module _ (values : List ℕ) (e : length values ≡ fields) where
+  pub word-at : fitting wordMosts values ≡ true → (k : ℕ) → k < fields → (k < length values) × (getD values k 0 ≤ wordMost)
+  word-at f k h = (omega (arith, e), rw (sym (word-most h)) (fits-each wordMosts values f k (rw (length-replicate fields wordMost) h) (omega (arith, e))))
+
+  pub in-order : getD values 0 0 ∷ getD values 1 0 ∷ getD values 2 0 ∷ getD values 3 0 ∷ getD values 4 0 ∷ getD values 5 0 ∷ getD values 6 0 ∷ getD values 7 0 ∷ getD values 8 0 ∷ getD values 9 0 ∷ getD values 10 0 ∷ getD values 11 0 ∷ getD values 12 0 ∷ getD values 13 0 ∷ getD values 14 0 ∷ [] ≡ values
+  in-order = sym (drop-at values 0 (omega (arith, e)) ∙ ap (λ (t : List ℕ). getD values 0 0 ∷ t) (drop-at values 1 (omega (arith, e)) ∙ ap (λ (t : List ℕ). getD values 1 0 ∷ t) (drop-at values 2 (omega (arith, e)) ∙ ap (λ (t : List ℕ). getD values 2 0 ∷ t) (drop-at values 3 (omega (arith, e)) ∙ ap (λ (t : List ℕ). getD values 3 0 ∷ t) (drop-at values 4 (omega (arith, e)) ∙ ap (λ (t : List ℕ). getD values 4 0 ∷ t) (drop-at values 5 (omega (arith, e)) ∙ ap (λ (t : List ℕ). getD values 5 0 ∷ t) (drop-at values 6 (omega (arith, e)) ∙ ap (λ (t : List ℕ). getD values 6 0 ∷ t) (drop-at values 7 (omega (arith, e)) ∙ ap (λ (t : List ℕ). getD values 7 0 ∷ t) (drop-at values 8 (omega (arith, e)) ∙ ap (λ (t : List ℕ). getD values 8 0 ∷ t) (drop-at values 9 (omega (arith, e)) ∙ ap (λ (t : List ℕ). getD values 9 0 ∷ t) (drop-at values 10 (omega (arith, e)) ∙ ap (λ (t : List ℕ). getD values 10 0 ∷ t) (drop-at values 11 (omega (arith, e)) ∙ ap (λ (t : List ℕ). getD values 11 0 ∷ t) (drop-at values 12 (omega (arith, e)) ∙ ap (λ (t : List ℕ). getD values 12 0 ∷ t) (drop-at values 13 (omega (arith, e)) ∙ ap (λ (t : List ℕ). getD values 13 0 ∷ t) (drop-at values 14 (omega (arith, e)) ∙ ap (λ (t : List ℕ). getD values 14 0 ∷ t) (drop-of-length-le values {i = fields} (omega (arith, e))))))))))))))))))

@@ -17,7 +17,7 @@ use Rattle.craft_state.specs.declared.state.Last.the-variants as L
 use Rattle.craft_state.specs.declared.state.Perfection.the-variants as P
 use Rattle.craft_state.specs.Start.{noBuffs}
 use Rattle.moves.specs.Rules.{ownRule, strictRule}
-use Rattle.moves.specs.Moves.{strictlyOf, allowedOf, movesOf}
+use Rattle.moves.specs.Moves.{strictlyOf, allowedOf, movesBy}
 use Rattle.moves.specs.Modes.{plain}
 use Rattle.score.specs.declared.result.CraftResult.{CraftResult}
 use Rattle.score.specs.Score.{scoreOf}
@@ -93,9 +93,9 @@ unfolding judged judgedBy
 told-steps r h = ap (map toldBy) (h .verdict)
 
 pub told-invalid : Tells (craft none) (at 4 100 (pos 20)) 3 []
-unfolding judged judgedBy movesOf allowedOf strictlyOf ownRule strictRule has collect
+unfolding judged judgedBy movesBy allowedOf strictlyOf ownRule strictRule has collect
 told-invalid r h = ap (map toldBy) (h .verdict)
 
 pub told-continuing : Tells (craft first) (at 4 100 (pos 20)) 4 []
-unfolding judged judgedBy movesOf allowedOf strictlyOf ownRule strictRule has collect actionOf
+unfolding judged judgedBy movesBy allowedOf strictlyOf ownRule strictRule has collect actionOf
 told-continuing r h = ap (map toldBy) (h .verdict)

@@ -12,16 +12,15 @@ use Rattle.laws.specs.laws.Bits.{has-collect, has-keep, keep-same, keep-keep, k
 use Rattle.action.specs.Known.{actions}
 use Rattle.action.specs.Amount.{present, AtMost}
 use Rattle.action.specs.Price.{affordable}
-use Rattle.action.specs.Bounds.{RowBounds}
+use Rattle.action.specs.Bounds.{Rows, RowsIn}
 use Rattle.action.specs.declared.table.Amount.{Amount}
 use Rattle.action.specs.declared.table.Amount.the-variants.{Of, Nothing}
-use Rattle.action.specs.declared.table.Attributes.{Attributes}
 use Rattle.action_set.specs.Sets.{SetIn, setOf, keepOf}
 use Rattle.craft_context.specs.declared.context.CraftContext.{CraftContext}
 use Rattle.craft_state.specs.declared.state.CraftState.{CraftState}
 use Rattle.moves.specs.Rules.{mayProgress}
 use Rattle.moves.specs.inner.Sets.{unlessOf, amountOf, finishesBy}
-use Rattle.moves.specs.laws.Sets.{touches, works, onlyWorks}
+use Rattle.moves.specs.laws.Sets.{works, onlyWorks}
 
 -- ---- the price
 
@@ -35,7 +34,7 @@ affordable-by points (Of price) = refl
 affordable-by points Nothing = le-leb 0 points zero-le
 
 -- no price is above the most, and points for that are enough for all
-pub payable-all : (rows : ℕ → Attributes) {most : ℕ} → ((n : ℕ) → n < actions → AtMost most (rows n .«cp_cost»)) → (points : ℕ) → most ≤ points
+pub payable-all : (rows : Rows) {most : ℕ} → ((n : ℕ) → n < actions → AtMost most (rows n .«cp_cost»)) → (points : ℕ) → most ≤ points
     → (set : ℕ) → SetIn set → set ≡ keepOf (λ n. affordable points (rows n .«cp_cost»)) set
 payable-all rows cheap points enough set h =
     sym (keep-whole actions set (λ n. affordable points (rows n .«cp_cost»)) h
@@ -43,7 +42,7 @@ payable-all rows cheap points enough set h =
 
 -- ---- what progress comes to
 
-module _ (c : CraftContext) (s : CraftState) (rows : ℕ → Attributes) (bounded : (n : ℕ) → n < actions → RowBounds n (rows n)) where
+module _ (c : CraftContext) (s : CraftState) (rows : Rows) (bounded : RowsIn rows) where
   -- n finishes
   abbrev finish : ℕ → Bool
   finish n = finishesBy c s (amountOf (rows n .«progress_efficiency»))

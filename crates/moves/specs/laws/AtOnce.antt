@@ -11,7 +11,7 @@ use Rattle.laws.specs.laws.Bits.{has-collect, keep-same, keep-keep}
 use Rattle.action.specs.Actions as A
 use Rattle.action.specs.Known.{actions}
 use Rattle.action.specs.Amount.{present}
-use Rattle.action.specs.Bounds.{RowBounds}
+use Rattle.action.specs.Bounds.{Rows, RowsIn}
 use Rattle.action.specs.declared.table.Amount.{Amount}
 use Rattle.action.specs.declared.table.Amount.the-variants.{Of, Nothing}
 use Rattle.action.specs.declared.table.Attributes.{Attributes}
@@ -35,13 +35,13 @@ turned a b x = sym (and-assoc a b x) ∙ and-comm (a && b) x ∙ sym (and-assoc 
 
 module _ (c : CraftContext) (s : CraftState) where
   -- TrainedEye alone, or the rules of strict mode one after the other
-  pub eye-leaves : eyeAlone c s ≡ true → (rows : ℕ → Attributes) (set : ℕ)
+  pub eye-leaves : eyeAlone c s ≡ true → (rows : Rows) (set : ℕ)
       → keepOf (has (setOf (only A.TrainedEye))) set ≡ keepOf (λ n. strictBeyond c s n (rows n)) set
   eye-leaves e rows set =
       keep-same actions set (has (setOf (only A.TrainedEye))) (λ n. strictBeyond c s n (rows n))
       (λ n l t. rw e (has-collect (only A.TrainedEye) actions n l))
 
-  pub beyond-leaves : eyeAlone c s ≡ false → (rows : ℕ → Attributes) (set : ℕ)
+  pub beyond-leaves : eyeAlone c s ≡ false → (rows : Rows) (set : ℕ)
       → keepOf (λ n. mayProgress c s (rows n .«progress_efficiency») (rows n .«quality_efficiency»))
       (keepOf (λ n. kindRule c s n (rows n)) (keepOf (strictRule c s) set))
       ≡ keepOf (λ n. strictBeyond c s n (rows n)) set
@@ -66,7 +66,7 @@ module _ (c : CraftContext) (s : CraftState) where
       by true own = implied (ownRule c s n row) (eqb n A.TrainedEye) (λ t. own refl (eqb-true n A.TrainedEye t))
       by false own = turned (ownRule c s n row) (strictRule c s n) rules
 
-  module _ (rows : ℕ → Attributes) (bounded : (n : ℕ) → n < actions → RowBounds n (rows n)) (pool : ℕ) where
+  module _ (rows : Rows) (bounded : RowsIn rows) (pool : ℕ) where
     abbrev own : ℕ → Bool
     own n = ownRule c s n (rows n)
 

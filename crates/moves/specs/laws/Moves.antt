@@ -14,9 +14,8 @@ use Rattle.laws.specs.Bits.{has}
 use Rattle.laws.specs.laws.Bits.{has-high, has-keep}
 use Rattle.action.specs.Actions as A
 use Rattle.action.specs.Known.{actions}
-use Rattle.action.specs.Bounds.{RowBounds}
-use Rattle.action.specs.laws.Bounds.{rows-bounded, price-at-most}
-use Rattle.action.specs.Table.{attributesOf}
+use Rattle.action.specs.Bounds.{RowBounds, Rows, RowsIn}
+use Rattle.action.specs.laws.Bounds.{price-at-most}
 use Rattle.action.specs.Price.{chargeOf}
 use Rattle.action.specs.declared.table.Amount.{Amount}
 use Rattle.action.specs.declared.table.Amount.the-variants.{Of, Nothing}
@@ -28,33 +27,33 @@ use Rattle.craft_state.specs.Limits.{stepLeast, stateInside}
 use Rattle.craft_state.specs.Inside.{CraftIn}
 use Rattle.craft_state.specs.laws.Inside.{in-state}
 use Rattle.step.specs.inner.Asked.{Where, Payable, Playable}
-use Rattle.step.specs.Step.{executeOf}
+use Rattle.step.specs.Step.{executeBy}
 use Rattle.step.specs.laws.Step.{execute-in, execute-pays}
 use Rattle.moves.specs.Modes.{plain, strict}
 use Rattle.moves.specs.Rules.{affords, mayImprove, eyeAlone, outsideMemory, outsideVeneration, afterObserve, mayProgress, ownRule, strictRule}
-use Rattle.moves.specs.Moves.{strictlyOf, allowedOf, allowsOf, passesOf, ended, movesOf}
+use Rattle.moves.specs.Moves.{strictlyOf, allowedOf, ended, legalOf, allowsBy, passesBy, movesBy}
 use Rattle.moves.specs.declared.mode.Mode.{Mode}
 
 -- ---- the set
 
-module _ (c : CraftContext) (s : CraftState) (mode : Mode) where
-  pub moves-ended : ended c s ≡ true → movesOf c s mode ≡ 0
-  unfolding movesOf
+module _ (rows : Rows) (c : CraftContext) (s : CraftState) (mode : Mode) where
+  pub moves-ended : ended c s ≡ true → movesBy rows c s mode ≡ 0
+  unfolding movesBy
   moves-ended e = rw e
 
-  pub moves-on : ended c s ≡ false → movesOf c s mode ≡ keepOf (allowsOf c s mode) (c .«action_pool» .0)
-  unfolding movesOf
+  pub moves-on : ended c s ≡ false → movesBy rows c s mode ≡ keepOf (allowsBy rows c s mode) (c .«action_pool» .0)
+  unfolding movesBy
   moves-on e = rw e
 
   -- THE law of membership: the state has not ended, the pool has the candidate, and it passes the test
-  pub has-moves : (n : ℕ) → n < actions → has (movesOf c s mode) n ≡ not (ended c s) && passesOf c s mode n
-  unfolding movesOf
+  pub has-moves : (n : ℕ) → n < actions → has (movesBy rows c s mode) n ≡ legalOf c s mode n (rows n)
+  unfolding movesBy
   has-moves n h = by (ended c s)
     where
       by : (t : Bool)
-          → has (cond t 0 (keepOf (allowsOf c s mode) (c .«action_pool» .0))) n ≡ not t && (has (c .«action_pool» .0) n && allowsOf c s mode n)
+          → has (cond t 0 (keepOf (allowsBy rows c s mode) (c .«action_pool» .0))) n ≡ not t && (has (c .«action_pool» .0) n && allowsBy rows c s mode n)
       by true = has-high 0 n (pow-pos n)
-      by false = has-keep actions (c .«action_pool» .0) (allowsOf c s mode) n h
+      by false = has-keep actions (c .«action_pool» .0) (allowsBy rows c s mode) n h
 
 -- ---- strict mode asks for all that an action's own rule asks
 
@@ -146,35 +145,39 @@ module _ (c : CraftContext) (s : CraftState) (mode : Mode) (n : ℕ) (row : Attr
       by true t = strictly-own c s n row t
       by false t = t
 
--- ---- by the table's row: what is among the moves may be executed, and its price is at most the points
+-- ---- what is among the moves may be executed, and its price is at most the points: by any table in the bounds
 
-module _ (c : CraftContext) (s : CraftState) (mode : Mode) (n : ℕ) (g : CraftIn c s) (h : n < actions) (t : has (movesOf c s mode) n ≡ true) where
-  pub legal-playable : Playable c s n (attributesOf n)
-  legal-playable =
-      let parts = both (not (ended c s)) (passesOf c s mode n) (sym (has-moves c s mode n h) ∙ t) in
-      let allowed = both (has (c .«action_pool» .0) n) (allowsOf c s mode n) (parts .1) .1 in
-      allowed-playable c s mode n (attributesOf n) (rows-bounded n h) g h (going c s (not-true (ended c s) (parts .0))) allowed
+module _
+    (rows : Rows) (bounded : RowsIn rows)
+    (c : CraftContext) (s : CraftState) (mode : Mode) (n : ℕ) (g : CraftIn c s) (h : n < actions) (t : has (movesBy rows c s mode) n ≡ true)
+  where
+    legal-allowed : (ended c s ≡ false) × (allowsBy rows c s mode n ≡ true)
+    legal-allowed =
+        let parts = both (not (ended c s)) (passesBy rows c s mode n) (sym (has-moves rows c s mode n h) ∙ t) in
+        (not-true (ended c s) (parts .0), both (has (c .«action_pool» .0) n) (allowsBy rows c s mode n) (parts .1) .1)
 
-  pub legal-affordable : chargeOf n (s .«previous_combo_action») (attributesOf n .«cp_cost») ≤ s .cp
-  legal-affordable = legal-playable .payable
+    pub legal-playable : Playable c s n (rows n)
+    legal-playable = allowed-playable c s mode n (rows n) (bounded n h) g h (going c s (legal-allowed .0)) (legal-allowed .1)
 
-  -- QuickInnovation while it is left
-  pub legal-quick : n ≡ A.QuickInnovation → s .«quick_innovation_available» ≡ true
-  unfolding ownRule
-  legal-quick e =
-      let parts = both (not (ended c s)) (passesOf c s mode n) (sym (has-moves c s mode n h) ∙ t) in
-      let own = allowed-own c s mode n (attributesOf n) (both (has (c .«action_pool» .0) n) (allowsOf c s mode n) (parts .1) .1) in
-      both (s .«quick_innovation_available») (eqb (s .buffs .innovation) 0) (subst (λ (m : ℕ). ownRule c s m (attributesOf n) ≡ true) e own) .0
+    pub legal-affordable : chargeOf n (s .«previous_combo_action») (rows n .«cp_cost») ≤ s .cp
+    legal-affordable = legal-playable .payable
 
-  pub legal-keeps : CraftIn c (executeOf c s n)
-  legal-keeps = execute-in c s n (attributesOf n) (rows-bounded n h) legal-playable
+    -- QuickInnovation while it is left
+    pub legal-quick : n ≡ A.QuickInnovation → s .«quick_innovation_available» ≡ true
+    unfolding ownRule
+    legal-quick e =
+        let own = allowed-own c s mode n (rows n) (legal-allowed .1) in
+        both (s .«quick_innovation_available») (eqb (s .buffs .innovation) 0) (subst (λ (m : ℕ). ownRule c s m (rows n) ≡ true) e own) .0
 
-  -- so the next state passes the tests of refusal 2
-  pub legal-inside : stateInside c (executeOf c s n) ≡ true
-  legal-inside = in-state c (executeOf c s n) (legal-keeps .state)
+    pub legal-keeps : CraftIn c (executeBy rows c s n)
+    legal-keeps = execute-in c s n (rows n) (bounded n h) legal-playable
 
-  pub legal-pays : executeOf c s n .cp + chargeOf n (s .«previous_combo_action») (attributesOf n .«cp_cost») ≡ s .cp
-  legal-pays = execute-pays c s n (attributesOf n) (rows-bounded n h) legal-playable
+    -- so the next state passes the tests of refusal 2
+    pub legal-inside : stateInside c (executeBy rows c s n) ≡ true
+    legal-inside = in-state c (executeBy rows c s n) (legal-keeps .state)
+
+    pub legal-pays : executeBy rows c s n .cp + chargeOf n (s .«previous_combo_action») (rows n .«cp_cost») ≡ s .cp
+    legal-pays = execute-pays c s n (rows n) (bounded n h) legal-playable
 
 -- ---- strict moves are a part of the plain ones
 
@@ -185,8 +188,9 @@ module _ (c : CraftContext) (s : CraftState) (n : ℕ) (row : Attributes) where
       let parts = both (affords s n (row .«cp_cost») && mayImprove c s (row .«quality_efficiency»)) (strictlyOf c s n row) t in
       and-both (parts .0) (strictly-own c s n row (parts .1))
 
-pub strict-part : (c : CraftContext) (s : CraftState) (n : ℕ) → n < actions → has (movesOf c s strict) n ≡ true → has (movesOf c s plain) n ≡ true
-strict-part c s n h t =
-    let parts = both (not (ended c s)) (passesOf c s strict n) (sym (has-moves c s strict n h) ∙ t) in
-    let tests = both (has (c .«action_pool» .0) n) (allowsOf c s strict n) (parts .1) in
-    has-moves c s plain n h ∙ and-both (parts .0) (and-both (tests .0) (strict-allowed c s n (attributesOf n) (tests .1)))
+pub strict-part : (rows : Rows) (c : CraftContext) (s : CraftState) (n : ℕ) → n < actions → has (movesBy rows c s strict) n ≡ true
+    → has (movesBy rows c s plain) n ≡ true
+strict-part rows c s n h t =
+    let parts = both (not (ended c s)) (passesBy rows c s strict n) (sym (has-moves rows c s strict n h) ∙ t) in
+    let tests = both (has (c .«action_pool» .0) n) (allowsBy rows c s strict n) (parts .1) in
+    has-moves rows c s plain n h ∙ and-both (parts .0) (and-both (tests .0) (strict-allowed c s n (rows n) (tests .1)))

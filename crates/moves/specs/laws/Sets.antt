@@ -16,10 +16,9 @@ use Rattle.action.specs.Known.{actions}
 use Rattle.action.specs.Limits.{quietMost}
 use Rattle.action.specs.Amount.{present}
 use Rattle.action.specs.Table.{attributesOf}
-use Rattle.action.specs.Bounds.{RowBounds}
+use Rattle.action.specs.Bounds.{Rows, RowsIn}
 use Rattle.action.specs.declared.table.Amount.{Amount}
 use Rattle.action.specs.declared.table.Amount.the-variants.{Of, Nothing}
-use Rattle.action.specs.declared.table.Attributes.{Attributes}
 use Rattle.action_set.specs.Sets.{SetIn, keepOf}
 use Rattle.craft_context.specs.declared.context.CraftContext.{CraftContext}
 use Rattle.craft_state.specs.declared.state.CraftState.{CraftState}
@@ -37,7 +36,7 @@ only a n = eqb n a
 abbrev two : ℕ → ℕ → ℕ → Bool
 two a b n = eqb n a || eqb n b
 
-module _ (c : CraftContext) (s : CraftState) (rows : ℕ → Attributes) where
+module _ (c : CraftContext) (s : CraftState) (rows : Rows) where
   abbrev pub ownRules : List Rule
   ownRules =
       rule (two A.MuscleMemory A.Reflect) (eqb (s .step) stepLeast)
@@ -132,7 +131,7 @@ module _ (c : CraftContext) (s : CraftState) where
   follow-by true follows = sym (or-true follows)
   follow-by false follows = sym (or-false follows)
 
-  module _ (rows : ℕ → Attributes) (bounded : (n : ℕ) → n < actions → RowBounds n (rows n)) where
+  module _ (rows : Rows) (bounded : RowsIn rows) where
     kind-every : (n : ℕ) → n < actions → every kindRules n ≡ kindRule c s n (rows n)
     kind-every n l =
         let shape = bounded n l .shape in

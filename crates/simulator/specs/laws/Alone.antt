@@ -7,8 +7,8 @@ use Prim.Native.Nat.{ℕ}
 use lib.Dec.{eqb}
 use borrow.Author.Tests.{eqb-true}
 use Rattle.action.specs.Actions as A
+use Rattle.action.specs.Bounds.{Rows}
 use Rattle.action.specs.Price.{discountedBy, pointsOf, chargeOf}
-use Rattle.action.specs.Table.{attributesOf}
 use Rattle.action.specs.declared.price.Combo.{Combo}
 use Rattle.action.specs.declared.price.Combo.the-variants as C
 use Rattle.craft_context.specs.declared.context.CraftContext.{CraftContext}
@@ -17,7 +17,7 @@ use Rattle.craft_state.specs.declared.state.Last.{Last}
 use Rattle.craft_state.specs.declared.state.Last.the-variants as L
 use Rattle.craft_state.specs.Limits.{wasOf}
 use Rattle.step.specs.Parts.{onBasicTouch, comboAfter}
-use Rattle.step.specs.Step.{executeOf}
+use Rattle.step.specs.Step.{executeBy}
 use Rattle.step.specs.laws.Step.{execute-combo}
 use Rattle.simulator.specs.Alone.{discountedAfter, priceAfter, pricesAfter}
 use Rattle.simulator.specs.Promise.{chargesOf}
@@ -115,17 +115,18 @@ discount-same : (older last : Last) (n : ℕ) → discountedBy n (comboFrom olde
 discount-same older L.Nothing n = after-none (eqb n A.StandardTouch) (eqb n A.AdvancedTouch) (wasOf older A.BasicTouch)
 discount-same older (L.Was m) n = same-at older n m
 
-price-same : (older last : Last) (n : ℕ) → priceAfter older last n ≡ chargeOf n (comboFrom older last) (attributesOf n .«cp_cost»)
-price-same older last n = ap (λ (discounted : Bool). pointsOf discounted (attributesOf n .«cp_cost»)) (sym (discount-same older last n))
+module _ (rows : Rows) where
+  price-same : (older last : Last) (n : ℕ) → priceAfter rows older last n ≡ chargeOf n (comboFrom older last) (rows n .«cp_cost»)
+  price-same older last n = ap (λ (discounted : Bool). pointsOf discounted (rows n .«cp_cost»)) (sym (discount-same older last n))
 
--- ---- the whole list, from a state whose combo is that of the last two actions
+  -- ---- the whole list, from a state whose combo is that of the last two actions
 
-pub prices-charged : (c : CraftContext) (s : CraftState) (older last : Last) (list : List ℕ) → s .«previous_combo_action» ≡ comboFrom older last
-    → pricesAfter older last list ≡ chargesOf c s list
-unfolding pricesAfter chargesOf
-prices-charged c s older last [] e = refl
-prices-charged c s older last (n ∷ rest) e =
-    let first : priceAfter older last n ≡ chargeOf n (s .«previous_combo_action») (attributesOf n .«cp_cost») = rw e (price-same older last n) in
-    let next : executeOf c s n .«previous_combo_action» ≡ comboFrom last (L.Was n) =
-    execute-combo c s n (attributesOf n) ∙ ap (λ (combo : Combo). comboAfter combo n) e ∙ next-combo older last n in
-    rw (first, prices-charged c (executeOf c s n) last (L.Was n) rest next)
+  pub prices-charged : (c : CraftContext) (s : CraftState) (older last : Last) (list : List ℕ) → s .«previous_combo_action» ≡ comboFrom older last
+      → pricesAfter rows older last list ≡ chargesOf rows c s list
+  unfolding pricesAfter chargesOf
+  prices-charged c s older last [] e = refl
+  prices-charged c s older last (n ∷ rest) e =
+      let first : priceAfter rows older last n ≡ chargeOf n (s .«previous_combo_action») (rows n .«cp_cost») = rw e (price-same older last n) in
+      let next : executeBy rows c s n .«previous_combo_action» ≡ comboFrom last (L.Was n) =
+      execute-combo c s n (rows n) ∙ ap (λ (combo : Combo). comboAfter combo n) e ∙ next-combo older last n in
+      rw (first, prices-charged c (executeBy rows c s n) last (L.Was n) rest next)

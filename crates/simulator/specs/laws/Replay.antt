@@ -16,24 +16,28 @@ use Rattle.laws.specs.laws.Tests.{true-false}
 use Rattle.laws.specs.laws.Lists.{drop-at}
 use Rattle.laws.specs.Bits.{has}
 use Rattle.laws.specs.laws.Bits.{has-high}
+use Rattle.action.specs.Bounds.{Rows}
 use Rattle.action.specs.Known.{actions}
 use Rattle.craft_context.specs.declared.context.CraftContext.{CraftContext}
 use Rattle.craft_state.specs.declared.state.CraftState.{CraftState}
-use Rattle.step.specs.Step.{executeOf}
+use Rattle.step.specs.Step.{executeBy}
 use Rattle.moves.specs.declared.mode.Mode.{Mode}
-use Rattle.moves.specs.Moves.{passesOf, ended, movesOf}
+use Rattle.moves.specs.Moves.{passesBy, ended, movesBy}
 use Rattle.moves.specs.laws.Moves.{has-moves}
+use Rattle.score.specs.declared.result.CraftResult.{CraftResult}
 use Rattle.score.specs.declared.result.CraftResult.the-variants as R
 use Rattle.score.specs.Score.{scoreOf}
-use Rattle.score.specs.Result.{judgedBy, resultOf}
-use Rattle.simulator.specs.Replay.{goesOn, stopOf, slipOf, replayFrom}
+use Rattle.score.specs.Result.{judgedBy, resultBy}
+use Rattle.simulator.specs.Replay.{goesOn, stoppedAt, stopOf, slipOf, replayFrom}
+use Rattle.simulator.specs.declared.replay.Replay.{Replay}
+use Rattle.simulator.specs.inner.Settled.{settledBy}
 
-module _ (c : CraftContext) (mode : Mode) (s : CraftState) where
+module _ (rows : Rows) (c : CraftContext) (mode : Mode) (s : CraftState) where
   -- ---- the result of a state that has ended, and of one that has not
 
-  ended-stops : ended c s ≡ true → goesOn (resultOf c s mode) ≡ false
+  ended-stops : ended c s ≡ true → goesOn (resultBy rows c s mode) ≡ false
   unfolding judgedBy
-  ended-stops = by (leb (c .«progress_target») (s .progress)) (leb (c .«step_max») (s .step)) (leZ (s .durability) (pos 0)) (eqb (movesOf c s mode) 0)
+  ended-stops = by (leb (c .«progress_target») (s .progress)) (leb (c .«step_max») (s .step)) (leZ (s .durability) (pos 0)) (eqb (movesBy rows c s mode) 0)
     where
       by : (a b d m : Bool) → a || b || d ≡ true
           → goesOn (cond a (R.Finished (scoreOf c s)) (cond d R.DurabilityFailure (cond b R.MaxStepsFailure (cond m R.InvalidActionFailure R.Continuing))))
@@ -43,68 +47,91 @@ module _ (c : CraftContext) (mode : Mode) (s : CraftState) where
       by false true false m e = refl
       by false false false m e = absurd (true-false (sym e))
 
-  going-result : ended c s ≡ false → resultOf c s mode ≡ cond (eqb (movesOf c s mode) 0) R.InvalidActionFailure R.Continuing
+  going-result : ended c s ≡ false → resultBy rows c s mode ≡ cond (eqb (movesBy rows c s mode) 0) R.InvalidActionFailure R.Continuing
   unfolding judgedBy
   going-result = by (leb (c .«progress_target») (s .progress)) (leb (c .«step_max») (s .step)) (leZ (s .durability) (pos 0))
     where
       by : (a b d : Bool) → a || b || d ≡ false
           → cond a (R.Finished (scoreOf c s))
-          (cond d R.DurabilityFailure (cond b R.MaxStepsFailure (cond (eqb (movesOf c s mode) 0) R.InvalidActionFailure R.Continuing)))
-          ≡ cond (eqb (movesOf c s mode) 0) R.InvalidActionFailure R.Continuing
+          (cond d R.DurabilityFailure (cond b R.MaxStepsFailure (cond (eqb (movesBy rows c s mode) 0) R.InvalidActionFailure R.Continuing)))
+          ≡ cond (eqb (movesBy rows c s mode) 0) R.InvalidActionFailure R.Continuing
       by false false false e = refl
       by true b d e = absurd (true-false e)
       by false true d e = absurd (true-false e)
       by false false true e = absurd (true-false e)
 
-  -- a legal move keeps the craft going
-  legal-on : (n : ℕ) → ended c s ≡ false → has (movesOf c s mode) n ≡ true → goesOn (resultOf c s mode) ≡ true
-  legal-on n e t = rw (going-result e) (by (eqb (movesOf c s mode) 0) (eqb-true (movesOf c s mode) 0))
+  -- ---- the same by the result that is found without the moves
+
+  settled-ended : ended c s ≡ true → resultBy rows c s mode ≡ settledBy (judgedBy c s 0) (movesBy rows c s mode)
+  unfolding judgedBy
+  settled-ended = by (leb (c .«progress_target») (s .progress)) (leb (c .«step_max») (s .step)) (leZ (s .durability) (pos 0))
     where
-      by : (b : Bool) → (b ≡ true → movesOf c s mode ≡ 0) → goesOn (cond b R.InvalidActionFailure R.Continuing) ≡ true
+      by : (a b d : Bool) → a || b || d ≡ true
+          → cond a (R.Finished (scoreOf c s))
+          (cond d R.DurabilityFailure (cond b R.MaxStepsFailure (cond (eqb (movesBy rows c s mode) 0) R.InvalidActionFailure R.Continuing)))
+          ≡ settledBy
+          (cond a (R.Finished (scoreOf c s)) (cond d R.DurabilityFailure (cond b R.MaxStepsFailure (cond true R.InvalidActionFailure R.Continuing))))
+          (movesBy rows c s mode)
+      by true b d e = refl
+      by false b true e = refl
+      by false true false e = refl
+      by false false false e = absurd (true-false (sym e))
+
+  -- what is reported where the loop was broken with a result
+  abbrev pub brokenWith : ℕ → CraftResult → Replay
+  brokenWith k result = stoppedAt rows c mode s k (settledBy result (movesBy rows c s mode))
+
+  -- a legal move keeps the craft going
+  legal-on : (n : ℕ) → ended c s ≡ false → has (movesBy rows c s mode) n ≡ true → goesOn (resultBy rows c s mode) ≡ true
+  legal-on n e t = rw (going-result e) (by (eqb (movesBy rows c s mode) 0) (eqb-true (movesBy rows c s mode) 0))
+    where
+      by : (b : Bool) → (b ≡ true → movesBy rows c s mode ≡ 0) → goesOn (cond b R.InvalidActionFailure R.Continuing) ≡ true
       by true f = absurd (true-false (sym t ∙ ap (λ (set : ℕ). has set n) (f refl) ∙ has-high 0 n (pow-pos n)))
       by false f = refl
 
   -- ---- the next action
 
   module _ (n : ℕ) (h : n < actions) where
-    pub legal-is : {b : Bool} → ended c s ≡ false → passesOf c s mode n ≡ b → has (movesOf c s mode) n ≡ b
-    legal-is e p = has-moves c s mode n h ∙ rw e p
+    pub legal-is : {b : Bool} → ended c s ≡ false → passesBy rows c s mode n ≡ b → has (movesBy rows c s mode) n ≡ b
+    legal-is e p = has-moves rows c s mode n h ∙ rw e p
 
-    pub replay-on : (k : ℕ) (rest : List ℕ) → ended c s ≡ false → passesOf c s mode n ≡ true
-        → replayFrom c mode s k (n ∷ rest) ≡ replayFrom c mode (executeOf c s n) (k + 1) rest
+    pub replay-on : (k : ℕ) (rest : List ℕ) → ended c s ≡ false → passesBy rows c s mode n ≡ true
+        → replayFrom rows c mode s k (n ∷ rest) ≡ replayFrom rows c mode (executeBy rows c s n) (k + 1) rest
     unfolding replayFrom
     replay-on k rest e p = rw (legal-on n e (legal-is e p), legal-is e p)
 
-    pub replay-slip : (k : ℕ) (rest : List ℕ) → ended c s ≡ false → passesOf c s mode n ≡ false → replayFrom c mode s k (n ∷ rest) ≡ slipOf c mode s k
+    pub replay-slip : (k : ℕ) (rest : List ℕ) → ended c s ≡ false → passesBy rows c s mode n ≡ false → replayFrom rows c mode s k (n ∷ rest) ≡ slipOf rows c mode s k
     unfolding replayFrom stopOf slipOf
-    replay-slip k rest e p = rw (legal-is e p, going-result e) (by (eqb (movesOf c s mode) 0))
+    replay-slip k rest e p = rw (legal-is e p, going-result e) (by (eqb (movesBy rows c s mode) 0))
       where
         by : (b : Bool)
-            → cond (goesOn (cond b R.InvalidActionFailure R.Continuing)) (slipOf c mode s k)
-            (record { state = s; moves = record { 0 = movesOf c s mode }; result = cond b R.InvalidActionFailure R.Continuing; executed = k })
-            ≡ record { state = s; moves = record { 0 = movesOf c s mode }; result = R.InvalidActionFailure; executed = k }
+            → cond (goesOn (cond b R.InvalidActionFailure R.Continuing)) (slipOf rows c mode s k)
+            (record { state = s; moves = record { 0 = movesBy rows c s mode }; result = cond b R.InvalidActionFailure R.Continuing; executed = k })
+            ≡ record { state = s; moves = record { 0 = movesBy rows c s mode }; result = R.InvalidActionFailure; executed = k }
         by true = refl
         by false = refl
 
-  pub replay-stop : (k : ℕ) (list : List ℕ) → ended c s ≡ true → replayFrom c mode s k list ≡ stopOf c mode s k
-  unfolding replayFrom
-  replay-stop k [] e = refl
-  replay-stop k (n ∷ rest) e = rw (ended-stops e)
+  pub replay-ended : (k : ℕ) (list : List ℕ) → ended c s ≡ true → replayFrom rows c mode s k list ≡ brokenWith k (judgedBy c s 0)
+  unfolding replayFrom stopOf
+  replay-ended k [] e = ap (stoppedAt rows c mode s k) (settled-ended e)
+  replay-ended k (n ∷ rest) e = rw (ended-stops e) (ap (stoppedAt rows c mode s k) (settled-ended e))
 
-  replay-none : (k : ℕ) → replayFrom c mode s k [] ≡ stopOf c mode s k
-  unfolding replayFrom
-  replay-none k = refl
+  replay-none : (k : ℕ) → ended c s ≡ false → replayFrom rows c mode s k [] ≡ brokenWith k R.Continuing
+  unfolding replayFrom stopOf
+  replay-none k e = ap (stoppedAt rows c mode s k) (going-result e)
 
   -- ---- the same of a list from a place on
 
   module _ (list : List ℕ) (i : ℕ) where
-    pub place-on : i < length list → getD list i 0 < actions → ended c s ≡ false → passesOf c s mode (getD list i 0) ≡ true
-        → replayFrom c mode s i (drop i list) ≡ replayFrom c mode (executeOf c s (getD list i 0)) (i + 1) (drop (i + 1) list)
-    place-on l h e p = ap (replayFrom c mode s i) (drop-at list i l) ∙ replay-on (getD list i 0) h i (drop (i + 1) list) e p
+    pub place-on : i < length list → getD list i 0 < actions → ended c s ≡ false → passesBy rows c s mode (getD list i 0) ≡ true
+        → replayFrom rows c mode s i (drop i list) ≡ replayFrom rows c mode (executeBy rows c s (getD list i 0)) (i + 1) (drop (i + 1) list)
+    place-on l h e p = ap (replayFrom rows c mode s i) (drop-at list i l) ∙ replay-on (getD list i 0) h i (drop (i + 1) list) e p
 
-    pub place-slip : i < length list → getD list i 0 < actions → ended c s ≡ false → passesOf c s mode (getD list i 0) ≡ false
-        → replayFrom c mode s i (drop i list) ≡ slipOf c mode s i
-    place-slip l h e p = ap (replayFrom c mode s i) (drop-at list i l) ∙ replay-slip (getD list i 0) h i (drop (i + 1) list) e p
+    pub place-slip : i < length list → getD list i 0 < actions → ended c s ≡ false → passesBy rows c s mode (getD list i 0) ≡ false
+        → replayFrom rows c mode s i (drop i list) ≡ brokenWith i R.InvalidActionFailure
+    unfolding slipOf
+    place-slip l h e p = ap (replayFrom rows c mode s i) (drop-at list i l) ∙ replay-slip (getD list i 0) h i (drop (i + 1) list) e p
 
-    pub place-end : i ≤ length list → length list ≤ i → replayFrom c mode s i (drop i list) ≡ stopOf c mode s i
-    place-end l m = ap (replayFrom c mode s i) (ap (λ (k : ℕ). drop k list) (le-antisymm l m) ∙ drop-length list) ∙ replay-none i
+    pub place-end : i ≤ length list → length list ≤ i → ended c s ≡ false → replayFrom rows c mode s i (drop i list) ≡ brokenWith i R.Continuing
+    place-end l m e =
+        ap (replayFrom rows c mode s i) (ap (λ (k : ℕ). drop k list) (le-antisymm l m) ∙ drop-length list) ∙ replay-none i e

@@ -12,6 +12,8 @@ use Rattle.laws.specs.laws.Lists.{drop-at}
 use Rattle.text.specs.Over.{over, Put}
 use Rattle.text.specs.laws.Over.{over-more, put-as}
 use Rattle.text.specs.laws.Lengths.{decimal-most, hex-length}
+use Rattle.action.specs.Table.{attributesOf}
+use Rattle.action.specs.laws.Bounds.{rows-bounded}
 use Rattle.action.specs.Known.{actions, knownFront}
 use Rattle.craft_context.specs.declared.context.CraftContext.{CraftContext}
 use Rattle.craft_context.specs.Limits.{ContextIn}
@@ -40,8 +42,8 @@ module _ (c : CraftContext) (s : CraftState) (part : List ℕ) {i : ℕ} (h : i 
   known-at : AllKnown (drop i part) → AllKnown (getD part i 0 ∷ drop (i + 1) part)
   known-at k = subst AllKnown (drop-at part i h) k
 
-  legal-at : EachLegal c plain s (drop i part) → EachLegal c plain s (getD part i 0 ∷ drop (i + 1) part)
-  legal-at l = subst (EachLegal c plain s) (drop-at part i h) l
+  legal-at : EachLegal attributesOf c plain s (drop i part) → EachLegal attributesOf c plain s (getD part i 0 ∷ drop (i + 1) part)
+  legal-at l = subst (EachLegal attributesOf c plain s) (drop-at part i h) l
 
   pub next-known : Played c s (drop i part) → getD part i 0 < actions
   next-known p = known-at (p .known) .0
@@ -109,7 +111,7 @@ module _ (c : CraftContext) (list : List ℕ) where
 
   module _ (inside : ContextIn c) (top : c .«step_max» ≤ stepMost) (known : length list ≤ knownFront list) where
     pub kept : {r : Replay} → r ≡ replayOf c plain list → Promise c plain list r
-    kept f = rw f (promised c plain inside top list (all-known list known))
+    kept f = rw f (promised attributesOf rows-bounded c plain inside top list (all-known list known))
 
     pub executed-played : {r : Replay} → r ≡ replayOf c plain list → Played c (startOf c) (take (r .executed) list)
     executed-played {r} f = record { known = take-known list (r .executed) (all-known list known); legal = kept f .executed .legal }

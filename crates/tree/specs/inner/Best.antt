@@ -15,12 +15,16 @@ use Rattle.tree.specs.Tree.{nodeAt, isChild}
 abbrev pub noBest : Best
 noBest = record { at = 0; «max_score» = plusZero }
 
+-- record k, that is n
+abbrev pub taken : ℕ → Node → Best
+taken k n = record { at = k; «max_score» = n .«max_score» }
+
 -- a later child takes the place of one with the same max_score
 abbrev pub isBetter : Best → Node → Bool
 isBetter best n = eqb (best .at) 0 || le (best .«max_score») (n .«max_score»)
 
 unfoldable pub pickOf : Best → ℕ → Node → ℕ → Best
-pickOf best k n parent = cond (isChild k n parent && isBetter best n) (record { at = k; «max_score» = n .«max_score» }) best
+pickOf best k n parent = cond (isChild k n parent && isBetter best n) (taken k n) best
 
 -- the best child among the first records
 unfoldable pub bestTo : ℕ → List Node → ℕ → Best

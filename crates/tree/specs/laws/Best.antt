@@ -9,7 +9,7 @@ use Prim.Native.Nat.{ℕ, zero, suc, _+_, _*_, _≤_, _<_}
 use native.Mathlib.Nat.{le-refl, le-of-lt}
 use native.Mathlib.Numerals.{add-one}
 use native.Mathlib.Omega.{arith}
-use lib.Dec.{T, leb, eqb, ltb}
+use lib.Dec.{T, leb, eqb, ltb, eqb·suc-zero}
 use lib.Ieee.{Float, nan, inf, fin, up, down, lt, eq, le, ofInt}
 use lib.Ieee.Bits.{is-true}
 use lib.Ieee.Fits.{down-pos}
@@ -23,8 +23,8 @@ use Rattle.tree.specs.declared.node.Node.{Node}
 use Rattle.tree.specs.declared.best.Best.{Best}
 use Rattle.tree.specs.Node.{plusZero}
 use Rattle.tree.specs.Sound.{isMaximum}
-use Rattle.tree.specs.Tree.{nodeAt, isChild, childrenOf, yields, allYield, bestIn, bestOf}
-use Rattle.tree.specs.inner.Best.{noBest, isBetter, pickOf, bestTo}
+use Rattle.tree.specs.Tree.{nodeAt, Falls, isChild, childrenOf, yields, allYield, bestIn, bestOf}
+use Rattle.tree.specs.inner.Best.{noBest, taken, isBetter, pickOf, bestTo}
 use Rattle.tree.specs.laws.Float.{at-most}
 use Rattle.tree.specs.laws.Node.{holds, sound-parts}
 use Rattle.tree.specs.inner.Sound.{SoundTree}
@@ -66,13 +66,29 @@ le-total (fin false m e) (fin false n d) a b h = at-most _ _ (go (leb (m * up e 
 
 -- ---- record by record, for the loop that finds the best child
 
-pub best-none : (nodes : List Node) (parent : ℕ) → noBest ≡ bestTo 0 nodes parent
-unfolding bestTo
-best-none nodes parent = refl
+-- record 0 is no child
+pub best-first : (nodes : List Node) (parent : ℕ) → bestTo 1 nodes parent ≡ noBest
+unfolding bestTo pickOf
+best-first nodes parent = refl
 
 pub best-next : (k : ℕ) (nodes : List Node) (parent : ℕ) → pickOf (bestTo k nodes parent) k (nodeAt nodes k) parent ≡ bestTo (k + 1) nodes parent
 unfolding bestTo
 best-next k nodes parent = rw add-one
+
+-- a child is above its parent, so the search may start after the parent
+pub best-start : (nodes : List Node) (count parent : ℕ) → Falls nodes count → parent < count → noBest ≡ bestTo (parent + 1) nodes parent
+unfolding bestTo pickOf
+best-start nodes count parent falls inside = sym (go (parent + 1) (omega arith))
+  where
+    other : (k : ℕ) → k < parent + 1 → isChild k (nodeAt nodes k) parent ≡ false
+    other zero h = refl
+    other (suc k) h =
+        let up : nodeAt nodes (suc k) .parent < suc k = falls (suc k) (omega arith) (omega arith) in
+        simp (eqb·suc-zero, ne-eqb (nodeAt nodes (suc k) .parent) parent (λ e. omega arith))
+
+    go : (m : ℕ) → m ≤ parent + 1 → bestTo m nodes parent ≡ noBest
+    go zero h = refl
+    go (suc m) h = rw (other m (omega arith)) (go m (omega arith))
 
 pub child-parent : (k : ℕ) (n : Node) (parent : ℕ) → isChild k n parent ≡ true → n .parent ≡ parent
 child-parent k n parent e = eqb-true (n .parent) parent (both (not (eqb k 0)) _ e .1)
@@ -83,9 +99,6 @@ pub record IsChild (m : ℕ) (nodes : List Node) (parent : ℕ) (best : Best) : 
   pub below : best .at < m
   pub child : isChild (best .at) (nodeAt nodes (best .at)) parent ≡ true
   pub score : best .«max_score» ≡ nodeAt nodes (best .at) .«max_score»
-
-abbrev pub taken : ℕ → Node → Best
-taken k n = record { at = k; «max_score» = n .«max_score» }
 
 pub best-child : (m : ℕ) (nodes : List Node) (parent : ℕ) → 0 < bestTo m nodes parent .at → IsChild m nodes parent (bestTo m nodes parent)
 unfolding bestTo pickOf

@@ -3,7 +3,7 @@
 use mathlib.Core.Path.{_≡_, refl, sym, ap, _∙_}
 use mathlib.Core.Bool.{false}
 use mathlib.Core.List.{List, [], _∷_}
-use Prim.Native.Nat.{ℕ, zero, suc, _+_, _<_}
+use Prim.Native.Nat.{ℕ, zero, suc, _+_, _≤_, _<_}
 use native.Mathlib.Nat.{zero-add}
 use native.Mathlib.Omega.{arith}
 use lib.Dec.{eqb}
@@ -42,6 +42,21 @@ module _ (nodes : List Node) (count : ℕ) (tree : SoundTree nodes count) where
   module _ {p len : ℕ} (down : Down nodes count p len) where
     pub down-short : len < count
     down-short = omega (arith, down .left, solution-length nodes count tree)
+
+    -- there is a child as long as an action is left, and else none
+    pub down-more : len < length (solutionOf nodes count) → 0 < bestOf count nodes p
+    down-more h = go (bestOf count nodes p) refl
+      where
+        go : (b : ℕ) → bestOf count nodes p ≡ b → 0 < b
+        go zero e = absurd (omega (arith, h, down .left, ap length (descent-stop nodes count (tree-falls tree) p e)))
+        go (suc b) e = omega arith
+
+    pub down-none : length (solutionOf nodes count) ≤ len → bestOf count nodes p ≡ 0
+    down-none h = go (bestOf count nodes p) refl
+      where
+        go : (b : ℕ) → bestOf count nodes p ≡ b → b ≡ 0
+        go zero e = refl
+        go (suc b) e = absurd (omega (arith, h, down .left, ap length (descent-on nodes count (tree-falls tree) p (omega (arith, e)))))
 
     -- there is a child
     module _ (more : 0 < bestOf count nodes p) where
@@ -86,3 +101,14 @@ module _ (nodes : List Node) (count : ℕ) (tree : SoundTree nodes count) where
     stored-all none =
         sym (over-none out at)
         ∙ ap (λ (path : List ℕ). over out at (actionsOf nodes path)) (sym (descent-stop nodes count (tree-falls tree) p none)) ∙ stored .rest
+
+-- one turn of a loop that writes the way down: its next record is k
+pub record Turned (nodes : List Node) (count : ℕ) (os : List ℕ) (k at : ℕ) (out : List ℕ) : Type 0 where
+  pub down : Down nodes count k at
+  pub stored : Stored nodes count os k at out
+
+pub turned : (nodes : List Node) (count : ℕ) → SoundTree nodes count → {os out : List ℕ} {p at k : ℕ} → Down nodes count p at → Stored nodes count os p at out
+    → k ≡ bestOf count nodes p → 0 < bestOf count nodes p
+    → {r : ℕ} {after : List ℕ} → Put out at (nodeAt nodes k .action ∷ []) r after → Turned nodes count os k r after
+turned nodes count tree down stored found more put =
+    rw found (record { down = rw (put .next) (down-on nodes count tree down more); stored = stored-on nodes count tree stored more (rw found at put) })

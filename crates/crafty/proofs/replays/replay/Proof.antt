@@ -9,6 +9,8 @@ use borrow.Author.Needs.{needs}
 use Rattle.refusal.specs.laws.Judge.{stopped, stopped-by, onward, onward-by, answered}
 use Rattle.action.specs.Known.{listTest}
 use Rattle.action.specs.laws.Known.{list-shown}
+use Rattle.action.specs.Table.{attributesOf}
+use Rattle.action.specs.laws.Bounds.{rows-bounded}
 use Rattle.craft_context.specs.Limits.{ContextIn, contextTests}
 use Rattle.craft_context.specs.laws.Limits.{context-in}
 use Rattle.simulator.specs.Promise.{Promise}
@@ -30,7 +32,7 @@ kept : (c : tie.After-execute-actions) → Promise (c .before .before .before .b
 kept c =
     let l = c .before .before .before in
     let s = l .before .before .before .before .before in
-    rw (c .execute-actions .ensures .0) (promised (s .args .context) (s .args .mode) (inside (l .before)) (omega (arith, byte s)) (s .args .list .now) (all-known (s .args .list .now) (list-shown (s .args .list .now) (l .check-list .ensures) (c .before .enum-told2 .given .1))))
+    rw (c .execute-actions .ensures .0) (promised attributesOf rows-bounded (s .args .context) (s .args .mode) (inside (l .before)) (omega (arith, byte s)) (s .args .list .now) (all-known (s .args .list .now) (list-shown (s .args .list .now) (l .check-list .ensures) (c .before .enum-told2 .given .1))))
 
 pub replay-spec : {M : Type 1} → statement M
 replay-spec =

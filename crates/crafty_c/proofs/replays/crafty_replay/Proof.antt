@@ -15,7 +15,6 @@ crafty-replay-spec =
     tie.close
     (tie.spec
     (λ c κs. tt)
-    (λ c. search needs)
     (λ c κs. search needs)
     (λ c. search needs)
-    (λ c. let k = c .before .before in rw (in-mode (k .before .before .before)) at (k .replay .ensures)))
+    (λ c. let k = c .before .before in rw (in-mode (k .before .before)) at (k .replay .ensures)))

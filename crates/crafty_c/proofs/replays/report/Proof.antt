@@ -13,6 +13,8 @@ use Rattle.text.specs.Over.{over}
 use Rattle.action.specs.Known.{knownFront}
 use Rattle.action.specs.laws.Known.{list-shown}
 use Rattle.craft_state.specs.Limits.{stepMost}
+use Rattle.action.specs.Table.{attributesOf}
+use Rattle.action.specs.laws.Bounds.{rows-bounded}
 use Rattle.simulator.specs.laws.Promise.{all-known, promised}
 use Rattle.crafty_c.specs.Numbers.{numbersLength, replayNumbers}
 use Rattle.crafty_c.proofs.replays.report.Statement.{statement}
@@ -33,7 +35,7 @@ fits c = room-shown (c .before .before .check-room .ensures) (c .enum-told2 .giv
 few : (c : tie.After-execute-actions) → c .execute-actions .result .executed ≤ stepMost
 few c =
     let s = c .before .before .before .before .before .before .before .before .before in
-    rw (c .execute-actions .ensures .0) (promised (s .args .context) (s .args .mode) (s .pre) (omega (arith, byte s)) (s .args .list .now) (all-known (s .args .list .now) (known (c .before))) .few)
+    rw (c .execute-actions .ensures .0) (promised attributesOf rows-bounded (s .args .context) (s .args .mode) (s .pre) (omega (arith, byte s)) (s .args .list .now) (all-known (s .args .list .now) (known (c .before))) .few)
 
 told : (c : tie.After-numbers) → c .numbers .result ≡ replayNumbers (c .before .execute-actions .result)
 told c = c .numbers .ensures

@@ -27,7 +27,7 @@ strict c =
     let going = sym (e .before .has-ended .ensures) ∙ e .if1 .left in
     let all = strict-at-once (s .args .context) (s .args .state) attributesOf rows-bounded (s .args .context .«action_pool» .0) (s .args .mode) (t .if2 .taken) in (
       simp (c .keep-payable .ensures .0, c .before .strict-part .ensures .0, left own)
-          (all ∙ sym (moves-on (s .args .context) (s .args .state) (s .args .mode) going)),
+          (all ∙ sym (moves-on attributesOf (s .args .context) (s .args .state) (s .args .mode) going)),
       c .keep-payable .ensures .1,
     )
 
@@ -40,7 +40,7 @@ plain c =
     let going = sym (e .before .has-ended .ensures) ∙ e .if1 .left in
     let all = plain-at-once (s .args .context) (s .args .state) attributesOf rows-bounded (s .args .context .«action_pool» .0) (s .args .mode) (t .if2 .left) in (
       simp (c .keep-payable2 .ensures .0, left own)
-          (all ∙ sym (moves-on (s .args .context) (s .args .state) (s .args .mode) going)),
+          (all ∙ sym (moves-on attributesOf (s .args .context) (s .args .state) (s .args .mode) going)),
       c .keep-payable2 .ensures .1,
     )
 
@@ -49,7 +49,7 @@ moves-at-once-spec =
     tie.close
     (tie.spec
     (λ c κs. tt)
-    (λ c. let s = c .before .before in (sym (moves-ended (s .args .context) (s .args .state) (s .args .mode) (sym (c .before .has-ended .ensures) ∙ c .if1 .taken)), lit< tt))
+    (λ c. let s = c .before .before in (sym (moves-ended attributesOf (s .args .context) (s .args .state) (s .args .mode) (sym (c .before .has-ended .ensures) ∙ c .if1 .taken)), lit< tt))
     (λ c κs. search needs)
     (λ c κs. search needs)
     (λ c κs. search needs)

@@ -1,7 +1,6 @@
 -- `moves::legal::is_legal` meets its contract.
 -- Assumes nothing.
 use mathlib.Core.Path.{sym, _∙_}
-use Rattle.moves.specs.laws.Moves.{has-moves}
 use Rattle.moves.proofs.legal.is_legal.Statement.{statement}
 use Rattle.moves.proofs.legal.is_legal.Tie as tie
 
@@ -10,9 +9,6 @@ is-legal-spec =
     tie.close
     (tie.spec
     (λ c κs. tt)
-    (λ c. let s = c .before .before in simp (has-moves (s .args .context) (s .args .state) (s .args .mode) (s .args .n) (s .pre .1), sym (c .before .has-ended .ensures) ∙ c .if1 .taken))
+    (λ c. simp (sym (c .before .has-ended .ensures) ∙ c .if1 .taken))
     (λ c κs. c .before .before .pre)
-    (λ c.
-    let e = c .before in
-    let s = e .before .before in
-    c .passes .ensures ∙ simp (has-moves (s .args .context) (s .args .state) (s .args .mode) (s .args .n) (s .pre .1), sym (e .before .has-ended .ensures) ∙ e .if1 .left)))
+    (λ c. let e = c .before in c .passes .ensures ∙ simp (sym (e .before .has-ended .ensures) ∙ e .if1 .left)))

@@ -6,7 +6,10 @@ use native.Mathlib.Omega.{arith}
 use lib.ListN.{length, drop}
 use Rattle.text.specs.Over.{over}
 use Rattle.text.specs.laws.Over.{over-none}
+use Rattle.action.specs.Table.{attributesOf}
+use Rattle.action.specs.laws.Bounds.{rows-bounded}
 use Rattle.craft_state.specs.Inside.{CraftIn}
+use Rattle.step.specs.Step.{executedOf}
 use Rattle.moves.specs.Modes.{plain}
 use Rattle.moves.specs.laws.Moves.{legal-playable, legal-keeps}
 use Rattle.transcript.specs.Transcript.{rowMost, rowsOf}
@@ -31,25 +34,29 @@ abbrev μ-loop : tie.MeasureT-loop
 loop-holds : tie.Need-loop-holds Inv-loop μ-loop
 loop-holds c = let start = c .before .before in (omega arith, start .pre .0, start .pre .1, refl, refl, omega arith, refl)
 
-execute-requires : tie.Need-execute-requires Inv-loop μ-loop
-execute-requires c κs =
-    let l = c .before .before .loop in
-    let h = c .before .loop-test .taken in
-    legal-playable _ (l .state) plain _ (l .inv .1) (next-known _ (l .state) _ h (l .inv .2)) (next-legal _ (l .state) _ h (l .inv .2))
+-- the row that is looked up is the table's
+execute-single-requires : tie.Need-execute-single-requires Inv-loop μ-loop
+execute-single-requires c κs =
+    let l = c .before .before .before .loop in
+    let h = c .before .before .loop-test .taken in
+    let known = next-known _ (l .state) _ h (l .inv .2) in
+    rw (c .attributes-of .ensures)
+    (legal-playable attributesOf rows-bounded _ (l .state) plain _ (l .inv .1) known (next-legal _ (l .state) _ h (l .inv .2)), rows-bounded _ known)
 
 put-row-requires : tie.Need-put-row-requires Inv-loop μ-loop
-put-row-requires c κs = let l = c .before .before .before .before .loop in omega (arith, l .inv .5, l .inv .6, c .before .before .before .loop-test .taken, c .before .before .before .before .before .before .before .pre .2)
+put-row-requires c κs = let l = c .before .before .before .before .before .loop in omega (arith, l .inv .5, l .inv .6, c .before .before .before .before .loop-test .taken, c .before .before .before .before .before .before .before .before .pre .2)
 
 loop-again : tie.Need-loop-again Inv-loop μ-loop
 loop-again c =
     let row = c .before .before in
     let turn = row .before .before in
-    let l = turn .before .before .before .loop in
-    let h = turn .before .before .loop-test .taken in
-    let e = turn .execute .ensures in
+    let l = turn .before .before .before .before .loop in
+    let h = turn .before .before .before .loop-test .taken in
+    let known = next-known _ (l .state) _ h (l .inv .2) in
+    let e = turn .execute-single .ensures ∙ ap (executedOf _ _ _) (turn .before .attributes-of .ensures) in
     let p = row .put-row .ensures .0 in (
       omega arith,
-      subst (CraftIn _) (sym e) (legal-keeps _ (l .state) plain _ (l .inv .1) (next-known _ (l .state) _ h (l .inv .2)) (next-legal _ (l .state) _ h (l .inv .2))),
+      subst (CraftIn _) (sym e) (legal-keeps attributesOf rows-bounded _ (l .state) plain _ (l .inv .1) known (next-legal _ (l .state) _ h (l .inv .2))),
       rest-played _ (l .state) _ h e (l .inv .2),
       rows-over _ (l .state) _ h e p ∙ l .inv .3,
       rows-count _ (l .state) _ h e p ∙ l .inv .4,
@@ -77,9 +84,10 @@ put-rows-spec =
     μ-loop
     loop-holds
     (λ c. omega arith)
-    execute-requires
+    (λ c κs. tt)
+    execute-single-requires
     put-row-requires
-    (λ c. omega arith)
+    (λ c. let turn = c .before .before .before .before .before .before .before in omega (arith, turn .loop-test .taken, turn .before .before .before .before .good))
     (λ c. omega arith)
     loop-again
     (λ c. c .before .loop .inv .6)

@@ -7,7 +7,9 @@ use Rattle.tree.specs.declared.node.Node.{Node}
 use Rattle.tree.specs.declared.best.Best.{Best}
 use Rattle.tree.specs.Tree.{nodeAt}
 use Rattle.tree.specs.inner.Best.{pickOf, bestTo}
-use Rattle.tree.specs.laws.Best.{best-none, best-next, best-rule}
+use Rattle.tree.specs.inner.Sound.{SoundTree}
+use Rattle.tree.specs.laws.Tree.{tree-falls}
+use Rattle.tree.specs.laws.Best.{best-start, best-next, best-rule}
 use Rattle.tree.proofs.best.Best as B
 use Rattle.walks.proofs.Walking.{_≡_, refl, ap, _∙_, ℕ, _+_, _-_, _<_, _≤_, _^_, arith, List, [], _∷_, ltb, lit<, ltb-true, ltb-false, givenOf, tables, _$_, !, lit, of-opd, bin, no-more, cited, usize′, none, has, holding, env, opd, _&_, sets, sets-last, lands-in, keeps, returns, whiles, fat, Shr, Tok, then, calls-shr, calls-plain, shr-proved}
 use Rattle.tree.proofs.Types.{node-at′}
@@ -43,15 +45,17 @@ best-child-spec 𝓤 H 𝓜 𝓖 𝓡 =
     let n : ℕ = a .0 in
     let p : ℕ = a .1 .0 in
     let E = env (code.function .locals) bs in
+    let tree : SoundTree ys n = pre .0 in
+    let after : p + 1 < 2 ^ 64 = omega (arith, pre .1, are .0 .1) in
     let typed = best′ .lawful 𝓤 H (𝓖 .A) (givenOf 𝓤 H 𝓜 𝓖) .typed in
     calls-plain ! 𝓣 then none′ starts tt tt tt (λ _. no-more !) (λ b₀ b₀-is b₀-ty b₀-said. lands-in ! refl (b₀-ty .0) $
-    sets ! (of-opd ! (lit ! tt)) refl (tt, record { fits = lit< tt }) $
+    sets ! (bin ! (opd ! refl) (lit ! tt) (record { fits = after })) refl (tt, record { fits = after }) $
     whiles 𝓣 (λ (x : State ys n p). holding (Shr S ys) (Tok S) E (none ∷ has (fat S) ∷ has (usize′ .val n) ∷ has (usize′ .val p) ∷ has (best′ .val (x .best)) ∷ has (usize′ .val (x .i)) ∷ []))
     (λ x. n - x .i) (λ x. ltb (x .i) n) ! (λ _. refl) (λ _ _. (tt, tt)) (λ _ _. refl) (λ x. bin ! (opd ! refl) (opd ! refl) tt)
     (λ x goes-on G _ again.
     let less = ltb-true (x .i) n goes-on in
     let next : x .i + 1 < 2 ^ 64 = omega (arith, less, are .0 .1) in
-    calls-shr 𝓣 S ys ! then node-at′ reads (x .i, tt) ((refl, omega (arith, next)), tt) same (omega (arith, less, pre .room)) (λ _ _. opd ! refl & opd ! refl & no-more !) (λ m m-is m-ty m-said. lands-in ! refl (m-ty .0) $
+    calls-shr 𝓣 S ys ! then node-at′ reads (x .i, tt) ((refl, omega (arith, next)), tt) same (omega (arith, less, tree .room)) (λ _ _. opd ! refl & opd ! refl & no-more !) (λ m m-is m-ty m-said. lands-in ! refl (m-ty .0) $
     calls-plain ! 𝓣 then pick′ picks (x .best, (x .i, (m, (p, tt)))) (x .best-is, ((refl, omega (arith, next)), (m-is, (are .1 .0, tt)))) tt (λ _. opd ! refl & opd ! refl & opd ! refl & opd ! refl & no-more !) (λ b b-is b-ty b-said.
     lands-in ! refl (b-ty .0) $
     sets-last ! (bin ! (opd ! refl) (lit ! tt) (record { fits = next })) refl (tt, record { fits = next }) $
@@ -65,5 +69,5 @@ best-child-spec 𝓤 H 𝓜 𝓖 𝓡 =
     }) (omega (arith, less)))))
     (λ x over.
     sets ! (of-opd ! (opd ! refl)) refl (typed (x .best) _ (x .best-is) .0) $ returns ! Q refl refl refl $
-    return (x .best) (x .best-is) (ap (λ (b : Best). b .at) (x .found ∙ ap (λ (k : ℕ). bestTo k ys p) (le-antisymm (x .within) (ltb-false (x .i) n over))) ∙ best-rule ys n pre p))
-    (record { i = 0; best = b₀; within = omega arith; best-is = b₀-is; found = b₀-said ∙ best-none ys p })))
+    return (x .best) (x .best-is) (ap (λ (b : Best). b .at) (x .found ∙ ap (λ (k : ℕ). bestTo k ys p) (le-antisymm (x .within) (ltb-false (x .i) n over))) ∙ best-rule ys n tree p))
+    (record { i = p + 1; best = b₀; within = omega (arith, pre .1); best-is = b₀-is; found = b₀-said ∙ best-start ys n p (tree-falls tree) (pre .1) })))

@@ -5,22 +5,18 @@ use lib.ListN.{length}
 use contract.Running.{tablesOf}
 use denote.Laws.{Is}
 use borrow.Author.Tests.{eqb-true}
-use Rattle.text.specs.Over.{Put}
 use Rattle.tree.specs.declared.node.Node.{Node}
 use Rattle.tree.specs.declared.best.Best.{Best}
-use Rattle.tree.specs.Tree.{nodeAt, bestOf}
+use Rattle.tree.specs.Tree.{bestOf}
 use Rattle.tree.specs.inner.Sound.{SoundTree}
-use Rattle.tree.specs.laws.Descent.{Down, Stored, some, down-first, down-room, down-rises, down-on, down-end, stored-first, stored-on, stored-all}
+use Rattle.tree.specs.laws.Descent.{Down, Stored, Turned, some, down-first, down-room, down-rises, down-on, down-end, stored-first, stored-all, turned}
 use Rattle.tree.proofs.best.Best as B
-use Rattle.walks.proofs.Walking.{_≡_, refl, sym, _∙_, subst, ℕ, _-_, _<_, _^_, arith, List, [], _∷_, eqb, lit<, not-true, not-false, tables, _$_, !, ‵, move, lit, of-opd, bin, no-more, cited, usize′, none, has, holding, env, opd, part, _&_, sets, lands-in, lands-last, keeps, returns, whiles, reborrows, fat, Own, Shr, Tok, then, last, calls-mut, calls-shr, both-proved}
-use Rattle.tree.proofs.Types.{node-at′}
-use Rattle.tree.proofs.TypesPaths.{best′, best-child′, action-fits, put-byte′, put-solution′}
+use Rattle.walks.proofs.Walking.{_≡_, refl, sym, _∙_, subst, ℕ, _-_, _<_, _^_, arith, List, [], _∷_, eqb, lit<, not-true, not-false, tables, _$_, !, ‵, lit, of-opd, bin, no-more, cited, usize′, none, has, holding, env, opd, part, _&_, sets, lands-in, lands-last, keeps, returns, whiles, reborrows, fat, Own, Shr, Tok, then, last, calls-shr, calls-both, both-proved}
+use Rattle.tree.proofs.TypesPaths.{best′, best-child′, put-action′, put-solution′}
 use Rattle.tree.proofs.descend.best_child.Symbol as best-child
 use Rattle.tree.proofs.descend.best_child.Met as best-child-thm
-use Rattle.tree.proofs.records.node_at.Symbol as node-at
-use Rattle.tree.proofs.records.node_at.Met as node-at-thm
-use Rattle.text.proofs.put_byte.Symbol as put-byte
-use Rattle.text.proofs.put_byte.Met as put-byte-thm
+use Rattle.tree.proofs.descend.put_action.Symbol as put-action
+use Rattle.tree.proofs.descend.put_action.Met as put-action-thm
 use Rattle.tree.proofs.descend.put_solution.Key as put-solution
 use Rattle.tree.proofs.descend.put_solution.Statement as stated
 use Rattle.tree.proofs.descend.put_solution.Code as code
@@ -35,33 +31,19 @@ record State (xs : List Node) (count : ℕ) (os : List ℕ) : Type 0 where
   down : Down xs count p at
   stored : Stored xs count os p at out
 
--- one turn
-record Turned (xs : List Node) (count : ℕ) (os : List ℕ) (k r : ℕ) (after : List ℕ) : Type 0 where
-  down : Down xs count k r
-  stored : Stored xs count os k r after
-
-turned : (xs : List Node) (count : ℕ) (tree : SoundTree xs count) (os : List ℕ) (x : State xs count os) → 0 < bestOf count xs (x .p)
-    → {r : ℕ} {after : List ℕ} {n : Node} → n ≡ nodeAt xs (x .best .at) → Put (x .out) (x .at) (n .action ∷ []) r after → Turned xs count os (x .best .at) r after
-turned xs count tree os x more e put =
-    rw (x .found) (record {
-      down = rw (put .next) (down-on xs count tree (x .down) more);
-      stored = stored-on xs count tree (x .stored) more (rw (e, x .found) at put);
-    })
-
 pub put-solution-spec : {M : Type 1} → stated.statement M
 unfolding code.routine tablesOf
 put-solution-spec 𝓤 H 𝓜 𝓖 𝓡 =
     let 𝓣 = tablesOf 𝓤 H 𝓜 (tables 𝓤 H 𝓜 𝓡 code.env) in
     let finds = cited 𝓤 H _ 𝓜 𝓡 code.env best-child.name best-child.routine code.calls-tree·descend·best-child (best-child-thm.met 𝓤 H 𝓜 𝓖 𝓡) in
-    let reads = cited 𝓤 H _ 𝓜 𝓡 code.env node-at.name node-at.routine code.calls-tree·records·node-at (node-at-thm.met 𝓤 H 𝓜 𝓖 𝓡) in
-    let puts = cited 𝓤 H _ 𝓜 𝓡 code.env put-byte.name put-byte.routine code.calls-text·put-byte (put-byte-thm.met 𝓤 H 𝓜 𝓖 𝓡) in
+    let puts = cited 𝓤 H _ 𝓜 𝓡 code.env put-action.name put-action.routine code.calls-tree·descend·put-action (put-action-thm.met 𝓤 H 𝓜 𝓖 𝓡) in
     both-proved 𝓤 H 𝓜 𝓖 𝓡 code.env put-solution.name code.function _ _ (code.unfolded 𝓤 H 𝓜 𝓡) put-solution′ refl (λ _ _ _ _ _ _ ty. ty) (λ S O ys os a are same same-o pre bs Q return.
     let n : ℕ = a .0 in
     let tree : SoundTree ys n = pre .0 in
     let E = env (code.function .locals) bs in
     sets ! (of-opd ! (lit ! tt)) refl (tt, record { fits = lit< tt }) $
     sets ! (of-opd ! (lit ! tt)) refl (tt, record { fits = lit< tt }) $
-    calls-shr 𝓣 S ys ! then best-child′ finds (n, (0, tt)) (are .0, ((refl, lit< tt), tt)) same tree (λ _ _. opd ! refl & opd ! refl & opd ! refl & no-more !) (λ b₀ b₀-is b₀-ty b₀-said. lands-in ! refl (b₀-ty .0) $
+    calls-shr 𝓣 S ys ! then best-child′ finds (n, (0, tt)) (are .0, ((refl, lit< tt), tt)) same (tree, tree .some) (λ _ _. opd ! refl & opd ! refl & opd ! refl & no-more !) (λ b₀ b₀-is b₀-ty b₀-said. lands-in ! refl (b₀-ty .0) $
     whiles 𝓣 (λ (x : State ys n os). ‵ (Shr S ys) ∷ ‵ (Tok S) ∷ holding (Own O (x .out)) (Tok O) E (none ∷ has (fat S) ∷ has (fat O) ∷ has (usize′ .val n) ∷ has (usize′ .val (x .p)) ∷ has (usize′ .val (x .at)) ∷ has (best′ .val (x .best)) ∷ []))
     (λ x. n - x .p) (λ x. not (eqb (x .best .at) 0)) ! (λ _. refl) (λ _ _. (tt, tt)) (λ _ _. refl) (λ x. bin ! (part ! refl refl refl refl) (lit ! tt) tt)
     (λ x goes-on G _ again.
@@ -72,13 +54,12 @@ put-solution-spec 𝓤 H 𝓜 𝓖 𝓡 =
     let long : length (x .out) ≡ O .count = x .stored .long ∙ same-o in
     let room : x .at < length (x .out) = omega (arith, down-room ys n tree (x .down) more, pre .1, x .stored .long) in
     sets ! (of-opd ! (part ! refl refl refl refl)) refl (tt, record { fits = k-fits }) $
-    calls-shr 𝓣 S ys ! then node-at′ reads (x .best .at, tt) ((refl, k-fits), tt) same (omega (arith, below, tree .room)) (λ _ _. opd ! refl & opd ! refl & no-more !) (λ m m-is m-ty m-said. lands-in ! refl (m-ty .0) $
-    reborrows ! (O .room .0) refl refl refl refl refl refl refl refl $ move ! (2 ∷ 3 ∷ []) $
-    calls-mut 𝓣 O (x .out) ! then put-byte′ puts (x .at, (m .action, tt)) ((refl, omega (arith, room, long, O .room .0)), ((refl, action-fits m m-is), tt)) long room (λ _ _. opd ! refl & opd ! refl & part ! refl refl refl refl & no-more !) (λ r zs r-is r-ty same′ said. lands-in ! refl (r-ty .0) $ move ! (2 ∷ 3 ∷ []) $
-    let turn : Turned ys n os (x .best .at) r zs = turned ys n tree os x more m-said said in
-    calls-shr 𝓣 S ys ! last best-child′ finds (n, (x .best .at, tt)) (are .0, ((refl, k-fits), tt)) same tree (λ _ _. opd ! refl & opd ! refl & opd ! refl & no-more !) (λ b b-is b-ty b-said. lands-last ! refl (b-ty .0) $
+    reborrows ! (O .room .0) refl refl refl refl refl refl refl refl $
+    calls-both 𝓣 S ys ! O (x .out) then put-action′ puts (x .at, (x .best .at, tt)) ((refl, omega (arith, room, long, O .room .0)), ((refl, k-fits), tt)) same long (omega (arith, below, tree .room), room) (λ _ _. opd ! refl & opd ! refl & opd ! refl & opd ! refl & no-more !) (λ r zs r-is r-ty same′ said. lands-in ! refl (r-ty .0) $
+    let turn : Turned ys n os (x .best .at) r zs = turned ys n tree (x .down) (x .stored) (x .found) more said in
+    calls-shr 𝓣 S ys ! last best-child′ finds (n, (x .best .at, tt)) (are .0, ((refl, k-fits), tt)) same (tree, below) (λ _ _. opd ! refl & opd ! refl & opd ! refl & no-more !) (λ b b-is b-ty b-said. lands-last ! refl (b-ty .0) $
     keeps ! 7 refl $
-    again (record { p = x .best .at; at = r; best = b; out = zs; best-is = b-is; found = b-said; down = turn .down; stored = turn .stored }) (omega (arith, rises, below))))))
+    again (record { p = x .best .at; at = r; best = b; out = zs; best-is = b-is; found = b-said; down = turn .down; stored = turn .stored }) (omega (arith, rises, below)))))
     (λ x over.
     let end : bestOf n ys (x .p) ≡ 0 = sym (x .found) ∙ eqb-true (x .best .at) 0 (not-false _ over) in
     let fits : x .p < 2 ^ 64 = omega (arith, x .down .inside, are .0 .1) in

@@ -34,7 +34,7 @@ solution-len-spec 𝓤 H 𝓜 𝓖 𝓡 =
     let n : ℕ = a .0 in
     let E = env (code.function .locals) bs in
     sets ! (of-opd ! (lit ! tt)) refl (tt, record { fits = lit< tt }) $
-    calls-shr 𝓣 S ys ! then best-child′ finds (n, (0, tt)) (are .0, ((refl, lit< tt), tt)) same pre (λ _ _. opd ! refl & opd ! refl & lit ! tt & no-more !) (λ b₀ b₀-is b₀-ty b₀-said. lands-in ! refl (b₀-ty .0) $
+    calls-shr 𝓣 S ys ! then best-child′ finds (n, (0, tt)) (are .0, ((refl, lit< tt), tt)) same (pre, pre .some) (λ _ _. opd ! refl & opd ! refl & lit ! tt & no-more !) (λ b₀ b₀-is b₀-ty b₀-said. lands-in ! refl (b₀-ty .0) $
     whiles 𝓣 (λ (x : State ys n). holding (Shr S ys) (Tok S) E (none ∷ has (fat S) ∷ has (usize′ .val n) ∷ has (usize′ .val (x .len)) ∷ has (best′ .val (x .best)) ∷ []))
     (λ x. n - x .p) (λ x. not (eqb (x .best .at) 0)) ! (λ _. refl) (λ _ _. (tt, tt)) (λ _ _. refl) (λ x. bin ! (part ! refl refl refl refl) (lit ! tt) tt)
     (λ x goes-on G _ again.
@@ -43,7 +43,7 @@ solution-len-spec 𝓤 H 𝓜 𝓖 𝓡 =
     let fits : x .len + 1 < 2 ^ 64 = omega (arith, down-short ys n pre on, are .0 .1) in
     let rises : x .p < x .best .at = subst (λ (k : ℕ). x .p < k) (sym (x .found)) (down-rises ys n pre (x .down) more) in
     sets ! (bin ! (opd ! refl) (lit ! tt) (record { fits = fits })) refl (tt, record { fits = fits }) $
-    calls-shr 𝓣 S ys ! last best-child′ finds (n, (x .best .at, tt)) (are .0, ((refl, omega (arith, on .inside, are .0 .1)), tt)) same pre (λ _ _. opd ! refl & opd ! refl & part ! refl refl refl refl & no-more !) (λ b b-is b-ty b-said. lands-last ! refl (b-ty .0) $
+    calls-shr 𝓣 S ys ! last best-child′ finds (n, (x .best .at, tt)) (are .0, ((refl, omega (arith, on .inside, are .0 .1)), tt)) same (pre, on .inside) (λ _ _. opd ! refl & opd ! refl & part ! refl refl refl refl & no-more !) (λ b b-is b-ty b-said. lands-last ! refl (b-ty .0) $
     keeps ! 5 refl $
     again (record { p = x .best .at; len = x .len + 1; best = b; best-is = b-is; found = b-said; down = on }) (omega (arith, rises, on .inside))))
     (λ x over.

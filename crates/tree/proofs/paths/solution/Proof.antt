@@ -9,6 +9,7 @@ use Rattle.refusal.proofs.Refusal as F
 use Rattle.refusal.proofs.Refusal.Laws as F′
 use Rattle.tree.specs.declared.paths.Solved.the-variants.{Solution, Refused}
 use Rattle.tree.specs.Tree.{isSound}
+use Rattle.tree.specs.inner.Few.{few}
 use Rattle.tree.specs.inner.Sound.{SoundTree}
 use Rattle.tree.specs.laws.Tree.{tree-of}
 use Rattle.tree.specs.laws.Paths.{solution-unsound, solution-short, solution-solved}
@@ -19,8 +20,13 @@ use Rattle.walks.proofs.Walking.{_≡_, refl, sym, ap, _∙_, ℕ, _≤_, arith
 use Rattle.tree.proofs.TypesGrow.{refusal′, is-sound′}
 use Rattle.tree.proofs.TypesPaths.{solution-len′, put-solution′}
 use Rattle.tree.proofs.TypesEntries.{solved′, has-room′, solution′}
+use Rattle.tree.proofs.TypesFew.{is-few′, solve-few′}
 use Rattle.tree.proofs.scan.is_sound.Symbol as is-sound
 use Rattle.tree.proofs.scan.is_sound.Met as is-sound-thm
+use Rattle.tree.proofs.few.is_few.Symbol as is-few
+use Rattle.tree.proofs.few.is_few.Met as is-few-thm
+use Rattle.tree.proofs.few.solve_few.Symbol as solve-few
+use Rattle.tree.proofs.few.solve_few.Met as solve-few-thm
 use Rattle.tree.proofs.descend.solution_len.Symbol as solution-len
 use Rattle.tree.proofs.descend.solution_len.Met as solution-len-thm
 use Rattle.tree.proofs.descend.put_solution.Symbol as put-solution
@@ -36,6 +42,8 @@ unfolding code.routine tablesOf
 solution-spec 𝓤 H 𝓜 𝓖 𝓡 =
     let 𝓣 = tablesOf 𝓤 H 𝓜 (tables 𝓤 H 𝓜 𝓡 code.env) in
     let scans = cited 𝓤 H _ 𝓜 𝓡 code.env is-sound.name is-sound.routine code.calls-tree·scan·is-sound (is-sound-thm.met 𝓤 H 𝓜 𝓖 𝓡) in
+    let asks = cited 𝓤 H _ 𝓜 𝓡 code.env is-few.name is-few.routine code.calls-tree·few·is-few (is-few-thm.met 𝓤 H 𝓜 𝓖 𝓡) in
+    let solves = cited 𝓤 H _ 𝓜 𝓡 code.env solve-few.name solve-few.routine code.calls-tree·few·solve-few (solve-few-thm.met 𝓤 H 𝓜 𝓖 𝓡) in
     let measures = cited 𝓤 H _ 𝓜 𝓡 code.env solution-len.name solution-len.routine code.calls-tree·descend·solution-len (solution-len-thm.met 𝓤 H 𝓜 𝓖 𝓡) in
     let compares = cited 𝓤 H _ 𝓜 𝓡 code.env has-room.name has-room.routine code.calls-tree·paths·has-room (has-room-thm.met 𝓤 H 𝓜 𝓖 𝓡) in
     let puts = cited 𝓤 H _ 𝓜 𝓡 code.env put-solution.name put-solution.routine code.calls-tree·descend·put-solution (put-solution-thm.met 𝓤 H 𝓜 𝓖 𝓡) in
@@ -55,6 +63,13 @@ solution-spec 𝓤 H 𝓜 𝓖 𝓡 =
     (λ good.
     let sound : isSound ys n ≡ true = sym s-said ∙ not-false s good in
     let tree : SoundTree ys n = tree-of sound in
+    calls-plain ! 𝓣 then is-few′ asks a are tt (λ _. opd ! refl & no-more !) (λ c c-is c-ty c-said. lands-in ! refl (c-ty .0) $
+    guards ! (opd ! refl)
+    (λ small G out _.
+    reborrows ! (O .room .0) refl refl refl refl refl refl refl refl $
+    calls-both 𝓣 S ys ! O os then solve-few′ solves a are same same-o (tree, leb-true n few (sym c-said ∙ small)) (λ _ _. opd ! refl & opd ! refl & opd ! refl & no-more !) (λ r zs r-is r-ty same′ said. lands-in ! refl (r-ty .0) $ returns ! Q out refl refl $
+    return r zs r-is same′ said))
+    (λ _.
     calls-shr 𝓣 S ys ! then solution-len′ measures a are same tree (λ _ _. opd ! refl & opd ! refl & no-more !) (λ needed needed-is needed-ty needed-said. lands-in ! refl (needed-ty .0) $
     sets ! (of-opd ! (part ! refl refl refl refl)) refl (tt, record { fits = O .room .0 }) $
     calls-plain ! 𝓣 then has-room′ compares (O .count, (needed, tt)) ((refl, O .room .0), (needed-is, tt)) tt (λ _. opd ! refl & opd ! refl & no-more !) (λ f f-is f-ty f-said. lands-in ! refl (f-ty .0) $
@@ -73,4 +88,4 @@ solution-spec 𝓤 H 𝓜 𝓖 𝓡 =
     calls-both 𝓣 S ys ! O os then put-solution′ puts a are same same-o (tree, omega (arith, room, needed-said)) (λ _ _. opd ! refl & opd ! refl & opd ! refl & no-more !) (λ last zs last-is last-ty same′ said. lands-in ! refl (last-ty .0) $
     let solved : Is answer.the-row (Solution needed last) (solved′ .val (Solution needed last) ∷ []) = enum-is answer.the-type answer′.the-laws (Solution needed last) (needed-is, (last-is, tt)) in
     sets ! (agg ! (lit ! tt & opd ! refl & opd ! refl & no-more !)) refl (typed (Solution needed last) _ solved .0) $ returns ! Q refl refl refl $
-    return (Solution needed last) zs solved same′ (solution-solved ys n os sound needed-said enough (said .0) (said .1)))))))))
+    return (Solution needed last) zs solved same′ (solution-solved ys n os sound needed-said enough (said .0) (said .1)))))))))))
