@@ -1,5 +1,4 @@
-// The moves of a state at once: what each rule leaves of the pool, and last a walk for the price. Beside `allowed` and `strictly`, which test one
-// candidate, and equal to the walk over candidates.
+// The moves of a state at once, equal to the walk over candidates: what each rule leaves of the pool, and last a walk for the price.
 ghost use mathlib.Core.Path.{_≡_};
 ghost use Rattle.action.specs.Table.{attributesOf};
 ghost use Rattle.action_set.specs.Sets.{SetIn, keepOf};
@@ -21,7 +20,7 @@ use super::strict::is_eye_alone;
 use craft_context::CraftContext;
 use craft_state::CraftState;
 
-// What strict mode leaves of a set that each action's own rule has been taken to.
+// Beside each line, `strictly`: what strict mode leaves of what the own rules left.
 fn strict_part(context: CraftContext, state: CraftState, set: u32) -> u32
     requires { ⌜ CraftIn context state × SetIn set ⌝ }
     ensures { λ r. ⌜ (r ≡ keepOf (λ n. strictBeyond context state n (attributesOf n)) set) × SetIn r ⌝ }
@@ -34,6 +33,7 @@ fn strict_part(context: CraftContext, state: CraftState, set: u32) -> u32
     progress_moves(context, state, kind)
 }
 
+// Beside each line, `legal_moves` and `allowed`.
 pub fn moves_at_once(context: CraftContext, state: CraftState, mode: Mode) -> u32
     requires { ⌜ CraftIn context state ⌝ }
     ensures { λ r. ⌜ (r ≡ movesOf context state mode) × SetIn r ⌝ }

@@ -1,4 +1,4 @@
-// The moves of a state at once: the rules of own.rt and strict.rt, an arm to a line, each over the set of its actions.
+// The rules of own.rt and strict.rt that are read from a state alone, an arm to a line, each over the set of its actions.
 ghost use mathlib.Core.Path.{_≡_};
 ghost use Prim.Native.Nat.{_<_};
 ghost use Rattle.laws.specs.Bits.{has};
@@ -21,6 +21,7 @@ use craft_context::CraftContext;
 use craft_state::Buffs;
 use craft_state::CraftState;
 
+// The actions of a rule.
 const OPENERS: u32 = 1 << action::MUSCLE_MEMORY | 1 << action::REFLECT;
 
 const PRUDENT: u32 = 1 << action::PRUDENT_SYNTHESIS | 1 << action::PRUDENT_TOUCH;
@@ -116,9 +117,9 @@ fn is_withstood(state: CraftState, n: u8) -> bool
 }
 
 // Beside each line, the arm of `own_rule`.
-pub fn own_moves(context: CraftContext, state: CraftState, pool: u32) -> u32
-    requires { ⌜ SetIn pool ⌝ }
-    ensures { λ r. ⌜ (r ≡ keepOf (λ n. ownRule context state n (attributesOf n)) pool) × SetIn r ⌝ }
+pub fn own_moves(context: CraftContext, state: CraftState, set: u32) -> u32
+    requires { ⌜ SetIn set ⌝ }
+    ensures { λ r. ⌜ (r ≡ keepOf (λ n. ownRule context state n (attributesOf n)) set) × SetIn r ⌝ }
 {
     let combo = state.previous_combo_action;
     let perfection = state.trained_perfection_active;
@@ -127,7 +128,7 @@ pub fn own_moves(context: CraftContext, state: CraftState, pool: u32) -> u32
     let groundwork = is_withstood(state, action::GROUNDWORK);
     let traited = is_withstood(state, action::GROUNDWORK_TRAITED);
     let quick = state.quick_innovation_available & (state.buffs.innovation == 0);
-    let set = unless(pool, OPENERS, first);
+    let set = unless(set, OPENERS, first);
     let set = unless(set, TRAINED_EYE, first & !context.is_expert);
     let set = unless(set, BYREGOTS_BLESSING, quiet > 0);
     let set = unless(set, TRAINED_FINESSE, quiet == Buffs::INNER_QUIET_MOST);

@@ -4,7 +4,7 @@ use mathlib.Core.Path.{_≡_, _∙_}
 use Rattle.action.specs.Table.{attributesOf}
 use Rattle.action.specs.laws.Bounds.{rows-bounded}
 use Rattle.moves.specs.inner.Sets.{amountOf}
-use Rattle.moves.specs.laws.Sets.{amount-at-most}
+use Rattle.moves.specs.laws.Amounts.{amount-at-most}
 use Rattle.moves.proofs.amounts.efficiency_of.Statement.{statement}
 use Rattle.moves.proofs.amounts.efficiency_of.Tie as tie
 

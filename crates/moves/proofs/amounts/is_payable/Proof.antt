@@ -1,7 +1,7 @@
 -- `moves::amounts::is_payable` meets its contract.
 -- Assumes nothing.
 use Rattle.action.specs.Table.{attributesOf}
-use Rattle.moves.specs.laws.Sets.{affordable-by}
+use Rattle.moves.specs.laws.Amounts.{affordable-by}
 use Rattle.moves.proofs.amounts.is_payable.Statement.{statement}
 use Rattle.moves.proofs.amounts.is_payable.Tie as tie
 

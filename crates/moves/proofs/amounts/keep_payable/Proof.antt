@@ -11,7 +11,7 @@ use Rattle.action.specs.Price.{affordable}
 use Rattle.action.specs.Table.{attributesOf}
 use Rattle.action.specs.laws.Bounds.{dearest-most}
 use Rattle.action_set.specs.Sets.{SetIn}
-use Rattle.moves.specs.laws.Sets.{payable-all}
+use Rattle.moves.specs.laws.Amounts.{payable-all}
 use Rattle.moves.proofs.amounts.keep_payable.Statement.{statement}
 use Rattle.moves.proofs.amounts.keep_payable.Tie as tie
 

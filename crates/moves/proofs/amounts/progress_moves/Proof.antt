@@ -5,7 +5,7 @@ use borrow.Author.Needs.{needs}
 use Rattle.laws.specs.Bits.{collect}
 use Rattle.action.specs.Table.{actionOf, attributesOf}
 use Rattle.action.specs.laws.Bounds.{rows-bounded}
-use Rattle.moves.specs.laws.Sets.{progress-leaves}
+use Rattle.moves.specs.laws.Amounts.{progress-leaves}
 use Rattle.moves.proofs.amounts.progress_moves.Statement.{statement}
 use Rattle.moves.proofs.amounts.progress_moves.Tie as tie
 

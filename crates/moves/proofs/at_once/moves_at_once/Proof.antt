@@ -7,7 +7,7 @@ use Rattle.laws.specs.Bits.{collect}
 use Rattle.action.specs.Table.{actionOf, attributesOf}
 use Rattle.action.specs.laws.Bounds.{rows-bounded}
 use Rattle.moves.specs.laws.Moves.{moves-ended, moves-on}
-use Rattle.moves.specs.laws.Sets.{eitherOf, plain-at-once, strict-at-once}
+use Rattle.moves.specs.laws.AtOnce.{eitherOf, plain-at-once, strict-at-once}
 use Rattle.moves.proofs.at_once.moves_at_once.Statement.{statement}
 use Rattle.moves.proofs.at_once.moves_at_once.Tie as tie
 

@@ -4,7 +4,7 @@ use mathlib.Core.Path.{sym, _∙_}
 use borrow.Author.Needs.{needs}
 use Rattle.laws.specs.Bits.{collect}
 use Rattle.action.specs.Table.{attributesOf}
-use Rattle.moves.specs.laws.Sets.{eye-leaves, beyond-leaves}
+use Rattle.moves.specs.laws.AtOnce.{eye-leaves, beyond-leaves}
 use Rattle.moves.proofs.at_once.strict_part.Statement.{statement}
 use Rattle.moves.proofs.at_once.strict_part.Tie as tie
 

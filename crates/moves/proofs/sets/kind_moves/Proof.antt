@@ -5,7 +5,8 @@ use borrow.Author.Needs.{needs}
 use Rattle.laws.specs.Bits.{collect}
 use Rattle.action.specs.Table.{actionOf, attributesOf}
 use Rattle.action.specs.laws.Bounds.{rows-bounded}
-use Rattle.moves.specs.laws.Sets.{leaves, kindRules, kind-leaves}
+use Rattle.moves.specs.laws.Leaves.{leaves}
+use Rattle.moves.specs.laws.Sets.{kindRules, kind-leaves}
 use Rattle.moves.proofs.sets.kind_moves.Statement.{statement}
 use Rattle.moves.proofs.sets.kind_moves.Tie as tie
 

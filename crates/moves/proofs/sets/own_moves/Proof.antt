@@ -4,7 +4,8 @@ use mathlib.Core.Path.{_≡_, _∙_}
 use borrow.Author.Needs.{needs}
 use Rattle.laws.specs.Bits.{collect}
 use Rattle.action.specs.Table.{attributesOf}
-use Rattle.moves.specs.laws.Sets.{leaves, ownRules, own-leaves}
+use Rattle.moves.specs.laws.Leaves.{leaves}
+use Rattle.moves.specs.laws.Sets.{ownRules, own-leaves}
 use Rattle.moves.proofs.sets.own_moves.Statement.{statement}
 use Rattle.moves.proofs.sets.own_moves.Tie as tie
 
@@ -24,7 +25,7 @@ returns c =
     let u1 = u2 .before .before in
     let traited = u1 .before .before .before in
     let s = traited .before .before .before in
-    let left : c .unless12 .result ≡ leaves (ownRules (s .args .context) (s .args .state) attributesOf) (s .args .pool) =
+    let left : c .unless12 .result ≡ leaves (ownRules (s .args .context) (s .args .state) attributesOf) (s .args .set) =
     simp (
       c .unless12 .ensures .0,
       u11 .unless11 .ensures .0,
@@ -45,7 +46,7 @@ returns c =
       u6 .before .no-waste-not .ensures,
       u5 .before .is-unused .ensures,
     )
-    in (left ∙ own-leaves (s .args .context) (s .args .state) attributesOf (s .args .pool) (s .pre), c .unless12 .ensures .1)
+    in (left ∙ own-leaves (s .args .context) (s .args .state) attributesOf (s .args .set) (s .pre), c .unless12 .ensures .1)
 
 pub own-moves-spec : {M : Type 1} → statement M
 own-moves-spec =

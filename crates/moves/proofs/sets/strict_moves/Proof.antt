@@ -7,7 +7,8 @@ use mir.ValLaws.{toZ-ofZ}
 use borrow.Author.Needs.{needs}
 use Rattle.laws.specs.Bits.{collect}
 use Rattle.craft_state.specs.laws.Inside.{durability-read}
-use Rattle.moves.specs.laws.Sets.{leaves, strictRules, strict-leaves}
+use Rattle.moves.specs.laws.Leaves.{leaves}
+use Rattle.moves.specs.laws.Sets.{strictRules, strict-leaves}
 use Rattle.moves.proofs.sets.strict_moves.Statement.{statement}
 use Rattle.moves.proofs.sets.strict_moves.Tie as tie
 

@@ -2,7 +2,7 @@
 -- Assumes nothing.
 use native.Mathlib.Omega.{arith}
 use lib.Bits.{and-le-l}
-use Rattle.moves.specs.laws.Sets.{unless-held, unless-broken}
+use Rattle.moves.specs.laws.Leaves.{unless-held, unless-broken}
 use Rattle.moves.proofs.sets.unless.Statement.{statement}
 use Rattle.moves.proofs.sets.unless.Tie as tie
 
