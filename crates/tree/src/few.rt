@@ -1,6 +1,6 @@
 // The way down in a tree of few records: one pass over them finds the best child of each.
 ghost use mathlib.Core.Path.{_≡_};
-ghost use Prim.Native.Nat.{_≤_, _<_, _^_};
+ghost use Prim.Native.Nat.{_≤_, _<_};
 ghost use lib.Dec.{leb};
 ghost use lib.ListN.{length};
 ghost use Rattle.tree.specs.Paths.{Solves};
@@ -84,7 +84,7 @@ fn way_len(best: &[u32]) -> usize
     len
 }
 
-// The solution of a sound tree.
+// The solution of a sound tree, by the table.
 pub fn solve_few(nodes: &[Node], out: &mut [u8], count: usize) -> Solved
     requires { ⌜ SoundTree (now nodes) count × (count ≤ few) ⌝ }
     ensures { λ r. ⌜ Solves (now (nodes .entry)) count (now (out .entry)) r (now (out .exit)) ⌝ }

@@ -44,6 +44,9 @@
 --                                     calls-both 𝓣 S ys ! O os then f′ theorem arguments known same same-o asked (λ _ _. operands) (λ r zs is ty same′ said. ..)
 --                                     calls-plain ! 𝓣 then f′ theorem arguments known asked (λ _. operands) (λ r is ty said. ..)
 --        _y = &(*_x.0), _z = [_y, _x.1]      reborrows ! (S .room .0) refl refl refl refl refl refl refl refl $
+--        _j = [x; n]                  fills ! k n x known operand refl refl (λ xs same is. ..): the list xs is n times x, and stays so until it is lent as a `&mut`
+--        _y = &_j, _z = [_y, n]       borrows ! (lit< tt) refl refl refl refl refl refl $ lends-array ! tt k tt n room xs is place refl (λ ν δ. ..), where the call takes it by `lent-view`, and before the result lands
+--                                     takes-array ! tt k n room zs place refl (λ is. ..): place is that of the local's cell, what stands before the locals counted too
 --        if c { .. } else { .. } ..          forks, guards; decides at the end of a block. An arm is (λ fact G out on. ..): it ends in a `return`, to which `out` leads, or goes on with what follows by `on _ $`
 --        if let X::Of(v) = _k { .. } ..      matches ! (tag ! refl refl refl refl) refl (λ G out on. ..), where the value of _k is known to be of one variant; an empty arm is `skips ! $ on _ $`, and v is read by `within ! refl refl refl refl refl refl refl`
 --                                     A call's result is made such a value by cases over what the callee says, with `lands-as ! (ap (k .val) fact) $` in front of `lands-in`
@@ -52,10 +55,11 @@
 --   An rvalue is `of-opd ! operand`, `bin ! operand operand checked`, `un ! operand checked` or `agg ! (operand & .. & no-more !)`; an operand `opd ! refl` for a local, `part ! refl refl refl refl` for a field of one, or `lit ! tt`.
 --   checked and fits are `tt` and `(tt, tt)` for a bool, and `record { fits = bound }` and `(tt, record { fits = bound })` for a number. A value of a declared type fits by `ty .0` of the call that gave it, or by `lawful .. .typed` and `struct-is`, `enum-is`.
 --   A turn of a loop ends in `keeps ! n refl $ again state smaller`: n is the count of the locals that the state speaks of, the first n, and the others are forgotten.
+--   What each step puts into the context is gone through again by every later one. Where that grows too dear, `keeps` and then `restated ! context refl $` write it out anew.
 --   Of two slices, the one that `calls-mut` is to take is moved to the front, `move ! (2 ∷ 3 ∷ []) $`, and back after it.
 --
 -- 5. The loop's state is a record: what changes, and the invariant as its last fields. One turn and the end are laws of their own, over lists and numbers, above the walk.
--- Not here: a local array that is lent as a slice, a `loop` with `break` inside a walk, two `&mut` slices, a slice of structs inside a struct. Put those into a covered function.
+-- Not here: a `loop` with `break` inside a walk, two `&mut` slices, a slice of structs inside a struct. Put those into a covered function.
 -- Assumes nothing. The rules of the logic, `Given`, are an argument of each law.
 pub use mathlib.Core.Path.{_≡_, refl, sym, ap, _∙_, subst}
 pub use Prim.Native.Nat.{ℕ, _+_, _-_, _<_, _≤_, _^_}
@@ -75,6 +79,7 @@ pub use Rattle.walks.proofs.Flow.{decides, forks, guards, whiles}
 pub use Rattle.walks.proofs.Enums.{lands-as, tag, within, matches}
 pub use Rattle.walks.proofs.Reborrow.{reborrows}
 pub use Rattle.walks.proofs.Elements.{reads-at, writes-at}
+pub use Rattle.walks.proofs.Arrays.{array-val, lent-view, restated, fills, borrows, lends-array, takes-array}
 pub use Rattle.walks.proofs.Lend.{fat, Own, Shr, Tok}
 pub use Rattle.walks.proofs.Calls.{then, last, calls-mut, calls-shared, calls-shr, calls-both, calls-plain}
 pub use Rattle.walks.proofs.Meets.{mut-proved, shr-proved, both-proved}

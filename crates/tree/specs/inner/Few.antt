@@ -1,9 +1,9 @@
 -- Inner: a tree of few records, by a table that has for each record its best child. Contracts of inner functions cite it, and no statement of an entry
 -- rests on it.
 -- Assumes nothing.
+use mathlib.Core.Path.{_≡_}
 use mathlib.Core.Bool.{cond}
 use mathlib.Core.List.{List, []}
-use mathlib.Core.Path.{_≡_}
 use Prim.Native.Nat.{ℕ, zero, suc, _≤_, _<_}
 use lib.ListN.{length, getD, set}
 use Rattle.tree.specs.declared.node.Node.{Node}

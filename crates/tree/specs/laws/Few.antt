@@ -11,7 +11,7 @@ use lib.Seq.{getD-set-same, getD-set-other}
 use borrow.Author.Tests.{ltb-true, ltb-false, eqb-true, eqb-false, eq-eqb, ne-eqb}
 use Rattle.tree.specs.declared.node.Node.{Node}
 use Rattle.tree.specs.declared.best.Best.{Best}
-use Rattle.tree.specs.Tree.{nodeAt, isChild, bestOf, onward, descentOf, solutionOf}
+use Rattle.tree.specs.Tree.{nodeAt, bestOf, onward, descentOf, solutionOf}
 use Rattle.tree.specs.inner.Best.{taken, isBetter, pickOf, bestTo}
 use Rattle.tree.specs.inner.Sound.{SoundTree}
 use Rattle.tree.specs.inner.Few.{few, entryAt, notedOf, childNoted, Bests, Blank, followIn, Rises, wayOf}

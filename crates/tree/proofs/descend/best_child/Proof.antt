@@ -11,7 +11,7 @@ use Rattle.tree.specs.inner.Sound.{SoundTree}
 use Rattle.tree.specs.laws.Tree.{tree-falls}
 use Rattle.tree.specs.laws.Best.{best-start, best-next, best-rule}
 use Rattle.tree.proofs.best.Best as B
-use Rattle.walks.proofs.Walking.{_≡_, refl, ap, _∙_, ℕ, _+_, _-_, _<_, _≤_, _^_, arith, List, [], _∷_, ltb, lit<, ltb-true, ltb-false, givenOf, tables, _$_, !, lit, of-opd, bin, no-more, cited, usize′, none, has, holding, env, opd, _&_, sets, sets-last, lands-in, keeps, returns, whiles, fat, Shr, Tok, then, calls-shr, calls-plain, shr-proved}
+use Rattle.walks.proofs.Walking.{_≡_, refl, ap, _∙_, ℕ, _+_, _-_, _<_, _≤_, _^_, arith, List, [], _∷_, ltb, ltb-true, ltb-false, givenOf, tables, _$_, !, lit, of-opd, bin, no-more, cited, usize′, none, has, holding, env, opd, _&_, sets, sets-last, lands-in, keeps, returns, whiles, fat, Shr, Tok, then, calls-shr, calls-plain, shr-proved}
 use Rattle.tree.proofs.Types.{node-at′}
 use Rattle.tree.proofs.TypesPaths.{best′, none′, pick′, best-child′}
 use Rattle.tree.proofs.best.Best.none.Symbol as none-yet

@@ -7,7 +7,6 @@ use denote.Laws.{Is}
 use denote.Plain.{UInt}
 use denote.Slice.{Room}
 use mir.Syntax.{w32}
-use Rattle.refusal.specs.declared.Refusal.{Refusal}
 use Rattle.refusal.specs.declared.Refusal.the-variants.{NoRoom}
 use Rattle.refusal.proofs.Refusal as F
 use Rattle.refusal.proofs.Refusal.Laws as F′
@@ -23,8 +22,7 @@ use Rattle.tree.specs.laws.Few.{blank-length, blank-table, table-rises, 
 use Rattle.tree.proofs.paths.Solved as answer
 use Rattle.tree.proofs.paths.Solved.Laws as answer′
 use Rattle.walks.proofs.Values.{enum-is}
-use Rattle.walks.proofs.Arrays.{restated, array-val, lent-view, fills, borrows, lends-array, takes-array}
-use Rattle.walks.proofs.Walking.{_≡_, refl, sym, ap, _∙_, subst, ℕ, _-_, _<_, _≤_, _^_, arith, true, List, [], _∷_, ltb, leb, lit<, ltb-true, ltb-false, leb-true, not-true, not-false, givenOf, tables, _$_, !, ‵, move, lit, of-opd, bin, un, agg, no-more, cited, usize′, u32′, bool′, none, has, holding, env, opd, part, _&_, sets, lands-in, lands-last, keeps, returns, guards, whiles, reborrows, fat, Own, Shr, Tok, then, last, calls-shared, calls-both, calls-plain, both-proved}
+use Rattle.walks.proofs.Walking.{_≡_, refl, sym, ap, _∙_, subst, ℕ, _-_, _<_, _≤_, _^_, arith, true, List, [], _∷_, ltb, leb, lit<, ltb-true, ltb-false, leb-true, not-true, not-false, givenOf, tables, _$_, !, ‵, move, lit, of-opd, bin, un, agg, no-more, cited, usize′, u32′, bool′, none, has, holding, env, opd, part, _&_, sets, lands-in, lands-last, keeps, returns, guards, whiles, reborrows, fat, Own, Shr, Tok, then, last, calls-shared, calls-both, calls-plain, both-proved, array-val, lent-view, restated, fills, borrows, lends-array, takes-array}
 use Rattle.tree.proofs.TypesGrow.{refusal′}
 use Rattle.tree.proofs.TypesPaths.{put-action′}
 use Rattle.tree.proofs.TypesEntries.{solved′, has-room′}
