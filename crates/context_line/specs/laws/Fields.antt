@@ -81,5 +81,16 @@ module _ (values : List ℕ) (e : length values ≡ fields) where
   pub word-at : fitting wordMosts values ≡ true → (k : ℕ) → k < fields → (k < length values) × (getD values k 0 ≤ wordMost)
   word-at f k h = (omega (arith, e), rw (sym (word-most h)) (fits-each wordMosts values f k (rw (length-replicate fields wordMost) h) (omega (arith, e))))
 
-  pub in-order : getD values 0 0 ∷ getD values 1 0 ∷ getD values 2 0 ∷ getD values 3 0 ∷ getD values 4 0 ∷ getD values 5 0 ∷ getD values 6 0 ∷ getD values 7 0 ∷ getD values 8 0 ∷ getD values 9 0 ∷ getD values 10 0 ∷ getD values 11 0 ∷ getD values 12 0 ∷ getD values 13 0 ∷ getD values 14 0 ∷ [] ≡ values
-  in-order = sym (drop-at values 0 (omega (arith, e)) ∙ ap (λ (t : List ℕ). getD values 0 0 ∷ t) (drop-at values 1 (omega (arith, e)) ∙ ap (λ (t : List ℕ). getD values 1 0 ∷ t) (drop-at values 2 (omega (arith, e)) ∙ ap (λ (t : List ℕ). getD values 2 0 ∷ t) (drop-at values 3 (omega (arith, e)) ∙ ap (λ (t : List ℕ). getD values 3 0 ∷ t) (drop-at values 4 (omega (arith, e)) ∙ ap (λ (t : List ℕ). getD values 4 0 ∷ t) (drop-at values 5 (omega (arith, e)) ∙ ap (λ (t : List ℕ). getD values 5 0 ∷ t) (drop-at values 6 (omega (arith, e)) ∙ ap (λ (t : List ℕ). getD values 6 0 ∷ t) (drop-at values 7 (omega (arith, e)) ∙ ap (λ (t : List ℕ). getD values 7 0 ∷ t) (drop-at values 8 (omega (arith, e)) ∙ ap (λ (t : List ℕ). getD values 8 0 ∷ t) (drop-at values 9 (omega (arith, e)) ∙ ap (λ (t : List ℕ). getD values 9 0 ∷ t) (drop-at values 10 (omega (arith, e)) ∙ ap (λ (t : List ℕ). getD values 10 0 ∷ t) (drop-at values 11 (omega (arith, e)) ∙ ap (λ (t : List ℕ). getD values 11 0 ∷ t) (drop-at values 12 (omega (arith, e)) ∙ ap (λ (t : List ℕ). getD values 12 0 ∷ t) (drop-at values 13 (omega (arith, e)) ∙ ap (λ (t : List ℕ). getD values 13 0 ∷ t) (drop-at values 14 (omega (arith, e)) ∙ ap (λ (t : List ℕ). getD values 14 0 ∷ t) (drop-of-length-le values {i = fields} (omega (arith, e))))))))))))))))))
+-- so many numbers from place k on
+abbrev placed : List ℕ → ℕ → ℕ → List ℕ
+placed values k zero = []
+placed values k (suc more) = getD values k 0 ∷ placed values (k + 1) more
+
+placed-drop : (values : List ℕ) (k more : ℕ) → length values ≡ k + more → placed values k more ≡ drop k values
+placed-drop values k zero e = sym (drop-of-length-le values {i = k} (omega arith))
+placed-drop values k (suc more) e =
+    ap (λ (rest : List ℕ). getD values k 0 ∷ rest) (placed-drop values (k + 1) more (omega arith)) ∙ sym (drop-at values k (omega arith))
+
+-- fifteen numbers by their places are the numbers
+pub in-order : (values : List ℕ) → length values ≡ fields → placed values 0 fields ≡ values
+in-order values e = placed-drop values 0 fields e
