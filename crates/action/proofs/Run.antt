@@ -1,4 +1,4 @@
--- Texts in one run, and where each starts: entry k is the part of the run from start k to start k + 1.
+-- Texts in one run, and where each starts: text n is the part of the run from start n to start n + 1.
 -- Assumes nothing.
 use mathlib.Core.Path.{_≡_}
 use mathlib.Core.Bool.{Bool, _&&_}
@@ -13,7 +13,7 @@ use Rattle.text.specs.Bytes.{bytes}
 use Rattle.action.specs.Table.{actionOf}
 use Rattle.action.specs.Known.{actions}
 use Rattle.action.specs.Names.{nameOf, labelOf}
-use Rattle.action.specs.inner.Texts.{texts, entryOf, entryCount}
+use Rattle.action.specs.inner.Texts.{names, labels}
 use Rattle.laws.specs.Lists.{same}
 
 unfoldable pub run : List String → List ℕ
@@ -24,38 +24,38 @@ unfoldable pub starts : ℕ → List String → List ℕ
 starts at [] = at ∷ []
 starts at (s ∷ rest) = at ∷ starts (at + length (bytes s)) rest
 
-abbrev pub start : ℕ → ℕ
-unfolding starts texts
-start k = getD (starts 0 texts) k 0
+module _ (texts : List String) where
+  abbrev pub start : ℕ → ℕ
+  unfolding starts
+  start n = getD (starts 0 texts) n 0
 
-pub record Part (k : ℕ) : Type 0 where
-  pub order : start k ≤ start (k + 1)
-  pub within : start (k + 1) ≤ length (run texts)
-  pub part : take (start (k + 1) - start k) (drop (start k) (run texts)) ≡ entryOf k
+  -- what stands in the run there
+  abbrev pub partOf : ℕ → List ℕ
+  partOf n = take (start (n + 1) - start n) (drop (start n) (run texts))
 
--- the test of it, which antt computes
-abbrev right : ℕ → Bool
-right k = leb (start k) (start (k + 1)) && (leb (start (k + 1)) (length (run texts)) && same (take (start (k + 1) - start k) (drop (start k) (run texts))) (entryOf k))
+pub record Part (texts : List String) (textOf : ℕ → List ℕ) (n : ℕ) : Type 0 where
+  pub order : start texts n ≤ start texts (n + 1)
+  pub within : start texts (n + 1) ≤ length (run texts)
+  pub part : partOf texts n ≡ textOf n
 
-from-test : (k : ℕ) → T (right k) → Part k
-from-test k t =
-    let a = and-right (leb (start k) (start (k + 1))) _ t in
-    record {
-      order = leb→le _ _ (and-left (leb (start k) (start (k + 1))) _ t);
-      within = leb→le _ _ (and-left (leb (start (k + 1)) (length (run texts))) _ a);
-      part = same→eq _ _ (and-right (leb (start (k + 1)) (length (run texts))) _ a);
-    }
+module _ (texts : List String) (textOf : ℕ → List ℕ) where
+  -- the test of it, which antt computes
+  abbrev right : ℕ → Bool
+  right n = leb (start texts n) (start texts (n + 1)) && (leb (start texts (n + 1)) (length (run texts)) && same (partOf texts n) (textOf n))
 
-pub parts : (k : ℕ) → k < entryCount → Part k
-unfolding run starts texts entryOf
-parts k h = from-test k (below-at right entryCount k h tt)
+  from-test : (n : ℕ) → T (right n) → Part texts textOf n
+  from-test n t =
+      let a = and-right (leb (start texts n) (start texts (n + 1))) _ t in
+      record {
+        order = leb→le _ _ (and-left (leb (start texts n) (start texts (n + 1))) _ t);
+        within = leb→le _ _ (and-left (leb (start texts (n + 1)) (length (run texts))) _ a);
+        part = same→eq _ _ (and-right (leb (start texts (n + 1)) (length (run texts))) _ a);
+      }
 
--- ---- the names, and the labels after them
+pub name-part : (n : ℕ) → n < actions → Part names nameOf n
+unfolding run starts names actionOf nameOf
+name-part n h = from-test names nameOf n (below-at (right names nameOf) actions n h tt)
 
-pub name-entry : (n : ℕ) → n < actions → entryOf n ≡ nameOf n
-unfolding actionOf nameOf texts entryOf
-name-entry n h = same→eq _ _ (below-at (λ n. same (entryOf n) (nameOf n)) actions n h tt)
-
-pub label-entry : (n : ℕ) → n < actions → entryOf (actions + n) ≡ labelOf n
-unfolding actionOf labelOf texts entryOf
-label-entry n h = same→eq _ _ (below-at (λ n. same (entryOf (actions + n)) (labelOf n)) actions n h tt)
+pub label-part : (n : ℕ) → n < actions → Part labels labelOf n
+unfolding run starts labels actionOf labelOf
+label-part n h = from-test labels labelOf n (below-at (right labels labelOf) actions n h tt)

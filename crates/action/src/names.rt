@@ -6,11 +6,11 @@ ghost use Rattle.text.specs.Over.{Put};
 ghost use Rattle.laws.specs.Lists.{same as Same·same};
 ghost use Rattle.action.specs.Known.{actions};
 ghost use Rattle.action.specs.Names.{nameOf, labelOf, foundOf};
-ghost use Rattle.action.specs.inner.Texts.{entryOf, entryCount, shortest, longest, keyOf};
+ghost use Rattle.action.specs.inner.Texts.{shortest, longest, keyOf};
 use super::ACTIONS;
 
-// The names in one run, a line for each, and the labels after them.
-const TEXTS: [u8; 837] = *b"BasicSynthesis\
+// The names in one run, a line for each. An array is built anew wherever it is used, so that names and labels are apart, and their starts short.
+const NAMES: [u8; 419] = *b"BasicSynthesis\
     BasicTouch\
     MastersMend\
     Observe\
@@ -40,8 +40,10 @@ const TEXTS: [u8; 837] = *b"BasicSynthesis\
     DelicateSynthesisTraited\
     QuickInnovation\
     ImmaculateMend\
-    TrainedPerfection\
-    Basic Synthesis\
+    TrainedPerfection";
+
+// The labels, likewise.
+const LABELS: [u8; 418] = *b"Basic Synthesis\
     Basic Touch\
     Master's Mend\
     Observe\
@@ -73,8 +75,8 @@ const TEXTS: [u8; 837] = *b"BasicSynthesis\
     Immaculate Mend\
     Trained Perfection";
 
-// Where each starts in the run: name n is entry n, label n is entry 31 + n.
-const STARTS: [usize; 63] = [
+// Where each name starts in its run, and where the last one ends.
+const NAME_STARTS: [u16; 32] = [
     0,
     14,
     24,
@@ -107,61 +109,61 @@ const STARTS: [usize; 63] = [
     388,
     402,
     419,
-    434,
-    445,
-    458,
-    465,
-    474,
-    484,
-    498,
-    511,
-    521,
-    536,
-    548,
-    566,
-    579,
-    596,
-    608,
-    621,
-    635,
-    642,
-    659,
-    669,
-    687,
-    698,
-    715,
-    725,
-    742,
-    757,
-    770,
-    788,
-    804,
-    819,
-    837,
 ];
 
-// Stores entry k of the run.
-fn put_entry(k: usize, out: &mut [u8], at: usize) -> usize
-    requires { ⌜ (k < entryCount) × (at + length (entryOf k) ≤ length (now out)) ⌝ }
-    ensures { λ r. ⌜ Put (now (out .entry)) at (entryOf k) r (now (out .exit)) ⌝ }
-{
-    let start = STARTS[k];
-    let end = STARTS[k + 1];
-    text::put(out, at, &TEXTS[start..end])
-}
+const LABEL_STARTS: [u16; 32] = [
+    0,
+    15,
+    26,
+    39,
+    46,
+    55,
+    65,
+    79,
+    92,
+    102,
+    117,
+    129,
+    147,
+    160,
+    177,
+    189,
+    202,
+    216,
+    223,
+    240,
+    250,
+    268,
+    279,
+    296,
+    306,
+    323,
+    338,
+    351,
+    369,
+    385,
+    400,
+    418,
+];
 
 pub fn put_name(n: u8, out: &mut [u8], at: usize) -> usize
     requires { ⌜ (n < actions) × (at + length (nameOf n) ≤ length (now out)) ⌝ }
     ensures { λ r. ⌜ Put (now (out .entry)) at (nameOf n) r (now (out .exit)) ⌝ }
 {
-    put_entry(n as usize, out, at)
+    let i = n as usize;
+    let start = NAME_STARTS[i] as usize;
+    let end = NAME_STARTS[i + 1] as usize;
+    text::put(out, at, &NAMES[start..end])
 }
 
 pub fn put_label(n: u8, out: &mut [u8], at: usize) -> usize
     requires { ⌜ (n < actions) × (at + length (labelOf n) ≤ length (now out)) ⌝ }
     ensures { λ r. ⌜ Put (now (out .entry)) at (labelOf n) r (now (out .exit)) ⌝ }
 {
-    put_entry(ACTIONS as usize + n as usize, out, at)
+    let i = n as usize;
+    let start = LABEL_STARTS[i] as usize;
+    let end = LABEL_STARTS[i + 1] as usize;
+    text::put(out, at, &LABELS[start..end])
 }
 
 // The action whose name a word is.
@@ -261,9 +263,9 @@ fn is_name(word: &[u8], n: u8) -> bool
     ensures { λ r. ⌜ r ≡ Same·same (nameOf n) (now (word .entry)) ⌝ }
 {
     let i = n as usize;
-    let start = STARTS[i];
-    let end = STARTS[i + 1];
-    check::same(word, &TEXTS[start..end])
+    let start = NAME_STARTS[i] as usize;
+    let end = NAME_STARTS[i + 1] as usize;
+    check::same(word, &NAMES[start..end])
 }
 
 // One comparison at most, with the only name that the word can be.

@@ -1,13 +1,12 @@
 // The replay program, as functions from bytes to bytes.
 ghost use mathlib.Core.Path.{_≡_};
-ghost use mathlib.Core.Bool.{true};
 ghost use Prim.Native.Nat.{_+_, _≤_};
 ghost use lib.ListN.{length};
 ghost use Rattle.refusal.specs.Judge.{sizeMost};
-ghost use Rattle.text.specs.Over.{over, Put};
-ghost use Rattle.rotation.specs.Words.{wordsKnown, actionsIn};
+ghost use Rattle.text.specs.Over.{over};
+ghost use Rattle.rotation.specs.inner.Counted.{leadingIn};
 ghost use Rattle.craft_context.specs.Limits.{ContextIn};
-ghost use Rattle.transcript.specs.Transcript.{transcriptMost, transcriptOf};
+ghost use Rattle.transcript.specs.Transcript.{transcriptMost};
 ghost use Rattle.crafty.specs.Room.{Fits};
 ghost use Rattle.crafty.specs.Program.{ReplaysText, refusedTextOf, Prints};
 ghost use Rattle.crafty.specs.inner.Program.{RendersWords, Renders};
@@ -24,35 +23,40 @@ use transcript::TRANSCRIPT_MOST;
 // The word, ten digits at most, and a newline.
 const REFUSED_MOST: usize = 19;
 
-// A room for lists of the usual length: one for all that an input can hold takes longer to clear than a short list to replay.
-const FEW: usize = 512;
+// In bytes, of words with a room of their own: one for all that an input can hold takes longer to clear than a short list to replay.
+const FEW: usize = 1024;
 
-// The words of a list, read into one room, and its replay rendered into another.
-fn render_known(context: CraftContext, words: &[u8], list: &mut [u8], room: &mut [u8]) -> usize
-    requires { ⌜ ContextIn context × (wordsKnown (now words) ≡ true) × (length (actionsIn (now words)) ≤ length (now list)) × (length (actionsIn (now words)) ≤ sizeMost) × (transcriptMost ≤ length (now room)) ⌝ }
-    ensures { λ r. ⌜ (now (list .exit) ≡ over (now (list .entry)) 0 (actionsIn (now (words .entry)))) × Put (now (room .entry)) 0 (transcriptOf context (actionsIn (now (words .entry)))) r (now (room .exit)) ⌝ }
+// A list of words, before which `base` bytes of the input stand, read into one room, and its replay in a context rendered into another.
+fn render_list(
+    context: CraftContext,
+    words: &[u8],
+    base: usize,
+    list: &mut [u8],
+    room: &mut [u8],
+) -> Written
+    requires { ⌜ ContextIn context × (base + length (now words) ≤ sizeMost) × (length (now words) ≤ length (now list)) × (transcriptMost ≤ length (now room)) ⌝ }
+    ensures { λ r. ⌜ (now (list .exit) ≡ over (now (list .entry)) 0 (leadingIn (now (words .entry)))) × RendersWords context base (now (words .entry)) (now (room .entry)) r (now (room .exit)) ⌝ }
 {
-    let k = rotation::put_words(words, list);
-    transcript::put_transcript(context, &list[..k], room)
+    let read = rotation::read_words(words, list);
+    match read {
+        Counted::Unknown(offset) => Written::Refused(Refusal::UnknownWord(base + offset)),
+        Counted::Words(k) => {
+            Written::Length(transcript::put_transcript(context, &list[..k], room))
+        }
+    }
 }
 
-// A list of words, before which `base` bytes of the input stand, replayed in a context.
+// The same with a room of its own for the list.
 fn render_words(context: CraftContext, words: &[u8], base: usize, room: &mut [u8]) -> Written
     requires { ⌜ ContextIn context × (base + length (now words) ≤ sizeMost) × (transcriptMost ≤ length (now room)) ⌝ }
     ensures { λ r. ⌜ RendersWords context base (now (words .entry)) (now (room .entry)) r (now (room .exit)) ⌝ }
 {
-    let counted = rotation::count(words);
-    match counted {
-        Counted::Unknown(offset) => Written::Refused(Refusal::UnknownWord(base + offset)),
-        Counted::Words(k) => {
-            if k <= FEW {
-                let mut list = [0u8; FEW];
-                return Written::Length(render_known(context, words, &mut list, room));
-            }
-            let mut list = [0u8; SIZE_MOST];
-            Written::Length(render_known(context, words, &mut list, room))
-        }
+    if words.len() <= FEW {
+        let mut list = [0u8; FEW];
+        return render_list(context, words, base, &mut list, room);
     }
+    let mut list = [0u8; SIZE_MOST];
+    render_list(context, words, base, &mut list, room)
 }
 
 // The whole input, replayed into a room that is always enough.

@@ -10,3 +10,4 @@ pub use timing::seconds;
 pub use words::Counted;
 pub use words::count;
 pub use words::put_words;
+pub use words::read_words;

@@ -3,9 +3,9 @@ ghost use mathlib.Core.Path.{_≡_};
 ghost use mathlib.Core.Bool.{true};
 ghost use Prim.Native.Nat.{_≤_};
 ghost use lib.ListN.{length};
-ghost use Rattle.text.specs.Over.{Put};
+ghost use Rattle.text.specs.Over.{over, Put};
 ghost use Rattle.rotation.specs.Words.{wordsKnown, actionsIn};
-ghost use Rattle.rotation.specs.inner.Counted.{countedOf};
+ghost use Rattle.rotation.specs.inner.Counted.{countedOf, leadingIn};
 ghost use Rattle.rotation.specs.inner.Next.{nextOf};
 use super::gaps::skip_gaps;
 use super::gaps::skip_letters;
@@ -51,6 +51,27 @@ pub fn count(text: &[u8]) -> Counted
             Next::End => return Counted::Words(k),
             Next::Unknown(start) => return Counted::Unknown(start),
             Next::Action(_, end) => {
+                k += 1;
+                at = end;
+            }
+        }
+    }
+}
+
+// Both at once, where there is a place for each byte of the text: its actions are stored up to the first unknown word.
+pub fn read_words(text: &[u8], out: &mut [u8]) -> Counted
+    requires { ⌜ length (now text) ≤ length (now out) ⌝ }
+    ensures { λ r. ⌜ (r ≡ countedOf (now (text .entry))) × (now (out .exit) ≡ over (now (out .entry)) 0 (leadingIn (now (text .entry)))) ⌝ }
+{
+    let mut k: usize = 0;
+    let mut at: usize = 0;
+    loop {
+        let next = next_word(text, at);
+        match next {
+            Next::End => return Counted::Words(k),
+            Next::Unknown(start) => return Counted::Unknown(start),
+            Next::Action(n, end) => {
+                out[k] = n;
                 k += 1;
                 at = end;
             }

@@ -1,4 +1,4 @@
--- For the contracts of inner functions: how the code keeps names and labels, as one run, and the key by which it finds a word's only candidate.
+-- For the contracts of inner functions: how the code keeps names and labels, each as one run, and the key by which it finds a word's only candidate.
 -- Assumes nothing.
 use mathlib.Core.Bool.{cond}
 use mathlib.Core.List.{List, [], _∷_, _++_}
@@ -11,30 +11,21 @@ use Rattle.action.specs.Table.{Action, table}
 use Rattle.action.specs.Known.{actions}
 use Rattle.action.specs.Names.{nameOf}
 
-abbrev pub namesOf : List Action → List String
+abbrev namesOf : List Action → List String
 namesOf [] = []
 namesOf (a ∷ rest) = a .name ∷ namesOf rest
 
-abbrev pub labelsOf : List Action → List String
+abbrev labelsOf : List Action → List String
 labelsOf [] = []
 labelsOf (a ∷ rest) = a .label ∷ labelsOf rest
 
--- the names, and the labels after them
-unfoldable pub texts : List String
+unfoldable pub names : List String
 unfolding table
-texts = namesOf table ++ labelsOf table
+names = namesOf table
 
-abbrev pub entryCount : ℕ
-entryCount = 62
-
--- the text at a place of a list
-abbrev pub entry : List String → ℕ → String
-entry [] k = ""
-entry (s ∷ rest) zero = s
-entry (s ∷ rest) (suc k) = entry rest k
-
-unfoldable pub entryOf : ℕ → List ℕ
-entryOf k = bytes (entry texts k)
+unfoldable pub labels : List String
+unfolding table
+labels = labelsOf table
 
 -- ---- how much room they take
 

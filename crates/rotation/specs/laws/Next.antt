@@ -17,6 +17,7 @@ use Rattle.action.specs.declared.names.Found.the-variants as F
 use Rattle.rotation.specs.Gaps.{gap, letter}
 use Rattle.rotation.specs.Words.{Word, wordsFrom, allFound, firstUnknown}
 use Rattle.rotation.specs.laws.Words.{gaps-passed, one-word, words-end}
+use Rattle.rotation.specs.inner.Counted.{leading}
 use Rattle.rotation.specs.inner.Next.{startFrom, endFrom, between, wordIs, nextFrom, nextOf}
 use Rattle.rotation.specs.declared.words.Next.{Next}
 use Rattle.rotation.specs.declared.words.Next.the-variants.{End, Unknown, Action}
@@ -38,7 +39,7 @@ pub record Turn (text : List ℕ) (at n end : ℕ) : Type 0 where
 
 abbrev pub Follows : List ℕ → ℕ → Next → Type 0
 Follows text at End = wordsAt text at ≡ []
-Follows text at (Unknown start) = (allFound (wordsAt text at) ≡ false) × (firstUnknown (wordsAt text at) ≡ start)
+Follows text at (Unknown start) = (allFound (wordsAt text at) ≡ false) × (firstUnknown (wordsAt text at) ≡ start) × (leading (wordsAt text at) ≡ [])
 Follows text at (Action n end) = Turn text at n end
 
 module _ (text : List ℕ) {at : ℕ} (h : at ≤ length text) where
@@ -75,7 +76,7 @@ module _ (text : List ℕ) {at : ℕ} (h : at ≤ length text) where
           start = startFrom text at;
           words = e;
         }
-    first F.Nothing e = (rw e, rw e)
+    first F.Nothing e = (rw e, rw e, rw e)
 
   follows : Follows text at (nextOf text at)
   unfolding nextOf

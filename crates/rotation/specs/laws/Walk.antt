@@ -1,8 +1,8 @@
--- The walks over a text's words: the one that counts them and the one that stores their actions, which have come to place `at`.
+-- The walks over a text's words: the one that counts them, the one that stores their actions and the one that does both, which have come to place `at`.
 -- Assumes nothing.
 use mathlib.Core.Path.{_≡_, refl, sym, ap, _∙_}
 use mathlib.Core.Bool.{true, false}
-use mathlib.Core.List.{List}
+use mathlib.Core.List.{List, []}
 use Prim.Native.Nat.{ℕ, _+_, _≤_, _<_}
 use native.Mathlib.Omega.{arith}
 use lib.ListN.{length, set, length-set}
@@ -10,7 +10,7 @@ use Rattle.laws.specs.laws.Tests.{true-false}
 use Rattle.text.specs.Over.{over, Put}
 use Rattle.text.specs.laws.Over.{over-none, over-step}
 use Rattle.rotation.specs.Words.{Word, wordsOf, numbers, allFound, firstUnknown, actionsIn, wordsKnown, unknownAt}
-use Rattle.rotation.specs.inner.Counted.{countedOf}
+use Rattle.rotation.specs.inner.Counted.{countedOf, leading, leadingIn}
 use Rattle.rotation.specs.laws.Next.{wordsAt, Turn, Follows}
 use Rattle.rotation.specs.declared.words.Next.the-variants as N
 use Rattle.rotation.specs.declared.words.Counted.the-variants.{Words, Unknown}
@@ -88,3 +88,26 @@ module _ (text before : List ℕ) {out : List ℕ} {k at : ℕ} (p : Putting tex
   -- none is unknown
   pub put-known : {start : ℕ} → Follows text at (N.Unknown start) → ⊥
   put-known e = true-false (sym (p .known) ∙ e .0)
+
+-- ---- both: k words are counted, and their actions stored
+pub record Reading (text before : List ℕ) (out : List ℕ) (k at : ℕ) : Type 0 where
+  pub counting : Counting text k at
+  pub same : over out k (leading (wordsAt text at)) ≡ over before 0 (leadingIn text)
+  pub size : length out ≡ length before
+
+pub reading-starts : (text out : List ℕ) → Reading text out out 0 0
+unfolding wordsOf leadingIn
+reading-starts text out = record { counting = counting-starts text; same = refl; size = refl }
+
+module _ (text before : List ℕ) {out : List ℕ} {k at : ℕ} (r : Reading text before out k at) where
+  pub reading-on : {n end : ℕ} → Turn text at n end → Reading text before (set out k n) (k + 1) end
+  reading-on {n} {end} t =
+      record {
+        counting = counting-on text (r .counting) t;
+        same = sym (over-step out k n (leading (wordsAt text end))) ∙ sym (ap (λ (w : List Word). over out k (leading w)) (t .words)) ∙ r .same;
+        size = simp length-set (r .size);
+      }
+
+  -- no action is left to store
+  pub reading-ends : leading (wordsAt text at) ≡ [] → out ≡ over before 0 (leadingIn text)
+  reading-ends e = sym (over-none out k) ∙ sym (ap (λ (w : List ℕ). over out k w) e) ∙ r .same
