@@ -26,12 +26,12 @@ use Rattle.tree.specs.laws.Solution.{best-below, best-rises, tree-rises,
 abbrev pub BestsTo : ℕ → List Node → List ℕ → Type 0
 BestsTo m nodes best = (p : ℕ) → p < length best → entryAt best p ≡ bestTo m nodes p .at
 
+-- a table of zeros
 blank-entry : (n p : ℕ) → entryAt (replicate n 0) p ≡ 0
 blank-entry zero p = refl
 blank-entry (suc n) zero = refl
 blank-entry (suc n) (suc p) = blank-entry n p
 
--- a table of zeros
 pub blank-length : (best : List ℕ) → best ≡ replicate few 0 → length best ≡ few
 blank-length best e = ap length e ∙ length-replicate {A = ℕ} few 0
 
@@ -42,7 +42,7 @@ blank-table tree most best e =
 pub bests-first : {nodes : List Node} {count : ℕ} {best : List ℕ} → Blank nodes count best → BestsTo 1 nodes best
 bests-first {nodes} blank p h = blank .none p ∙ sym (ap (λ (b : Best). b .at) (best-first nodes p))
 
-pub noted-length : (best : List ℕ) (k : ℕ) (n : Node) (b : ℕ) (m : Node) → length (notedOf best k n b m) ≡ length best
+noted-length : (best : List ℕ) (k : ℕ) (n : Node) (b : ℕ) (m : Node) → length (notedOf best k n b m) ≡ length best
 noted-length best k n b m = go (isBetter (taken b m) n)
   where
     go : (t : Bool) → length (cond t (set best (n .parent) k) best) ≡ length best
@@ -65,7 +65,8 @@ module _ (nodes : List Node) (k : ℕ) (some : 0 < k) (best : List ℕ) (before 
   better-same : isBetter (taken (entryAt best above) (nodeAt nodes (entryAt best above))) (nodeAt nodes k) ≡ isBetter (bestTo k nodes above) (nodeAt nodes k)
   better-same = rw (before above room) (go (bestTo k nodes above .at) refl)
     where
-      go : (b : ℕ) → bestTo k nodes above .at ≡ b → isBetter (taken (bestTo k nodes above .at) (nodeAt nodes (bestTo k nodes above .at))) (nodeAt nodes k) ≡ isBetter (bestTo k nodes above) (nodeAt nodes k)
+      go : (b : ℕ) → bestTo k nodes above .at ≡ b
+          → isBetter (taken (bestTo k nodes above .at) (nodeAt nodes (bestTo k nodes above .at))) (nodeAt nodes k) ≡ isBetter (bestTo k nodes above) (nodeAt nodes k)
       go zero e = rw e refl
       go (suc b) e = rw (best-child k nodes above (omega (arith, e)) .score) refl
 

@@ -52,6 +52,7 @@ module _ (next : ℕ → ℕ) (bound : ℕ) (rises : Rises next bound) where
   follow-same other same zero k h = refl
   follow-same other same (suc steps) k h = ap (λ (b : ℕ). onward b (followIn next steps)) (same k h) ∙ go (other k) (same k h) (follow-same other same steps)
     where
-      go : (b : ℕ) → next k ≡ b → ((b : ℕ) → b < bound → followIn next steps b ≡ followIn other steps b) → onward b (followIn next steps) ≡ onward b (followIn other steps)
+      go : (b : ℕ) → next k ≡ b → ((b : ℕ) → b < bound → followIn next steps b ≡ followIn other steps b)
+          → onward b (followIn next steps) ≡ onward b (followIn other steps)
       go zero e rest = refl
       go (suc b) e rest = ap (λ (l : List ℕ). suc b ∷ l) (rest (suc b) (omega (arith, e, rises .below k (omega (arith, e)))))

@@ -46,7 +46,9 @@ module _ (nodes : List Node) (count : ℕ) (falls : Falls nodes count) where
   -- ---- step by step, for the loops
 
   pub descent-stop : (k : ℕ) → bestOf count nodes k ≡ 0 → descentOf nodes count k ≡ []
-  descent-stop k e = descent-follows count k ∙ follow-next (bestOf count nodes) count tree-rises k ∙ ap (λ (b : ℕ). onward b (followIn (bestOf count nodes) count)) e
+  descent-stop k e =
+      descent-follows count k ∙ follow-next (bestOf count nodes) count tree-rises k
+      ∙ ap (λ (b : ℕ). onward b (followIn (bestOf count nodes) count)) e
 
   pub descent-on : (k : ℕ) → 0 < bestOf count nodes k → descentOf nodes count k ≡ bestOf count nodes k ∷ descentOf nodes count (bestOf count nodes k)
   descent-on k some = descent-follows count k ∙ follow-next (bestOf count nodes) count tree-rises k ∙ go (bestOf count nodes k) some
