@@ -39,7 +39,7 @@ impl Craft {
 }
 
 /// As the page builds one, but for targets, points and steps.
-pub fn lasting(points: u32) -> CraftContext {
+fn lasting(points: u32) -> CraftContext {
     let recipe = Recipe { progress: MOST, quality: MOST, ..recipe(80) };
     CraftContext::new(&Player::new(100, 1_000, 1_000, points), &recipe, options(255))
 }

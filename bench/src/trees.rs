@@ -15,8 +15,8 @@ const RECORDS: usize = 4_096;
 const NEAR: usize = 256;
 /// Calls of a round: the inner function is a small part of an entry's time, and only many calls tell it.
 const CALLS: usize = 1_024;
-/// Our solutions of a round: each looks through all records at every step, where the Rust has lists of children.
-const SOLUTIONS: usize = 16;
+/// Our solutions of a round: each goes over all records, where the Rust has lists of children.
+const SOLUTIONS: usize = 256;
 
 const NO_ACTION: u8 = 31;
 const SUCCESS: u64 = 0;

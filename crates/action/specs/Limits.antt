@@ -20,12 +20,6 @@ priceMost = 1000
 abbrev pub discountPrice : ℕ
 discountPrice = 18
 
--- ---- of our table
-
--- its dearest price: no row's is above it
-abbrev pub dearest : ℕ
-dearest = 250
-
 -- ---- of a context and a state: document 01's limits
 
 -- progress and quality targets, starting quality and points

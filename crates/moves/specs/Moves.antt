@@ -1,6 +1,6 @@
 -- Document 01, 'Legal moves': the test of one candidate in a mode, and the set of those of the pool that pass; none once the craft is over.
 -- Assumes nothing.
-use mathlib.Core.Bool.{Bool, cond, not, _&&_, _||_}
+use mathlib.Core.Bool.{Bool, cond, _&&_, _||_}
 use Prim.Native.Nat.{ℕ}
 use lib.Dec.{eqb, leb}
 use lib.IntN.{pos}
@@ -34,26 +34,15 @@ allowedOf c s mode n row =
     && mayImprove c s (row .«quality_efficiency»)
     && cond (mode .strict) (strictlyOf c s n row) (ownRule c s n row)
 
--- the pool has it, and it passes
-abbrev pub passedOf : CraftContext → CraftState → Mode → ℕ → Attributes → Bool
-passedOf c s mode n row = has (c .«action_pool» .0) n && allowedOf c s mode n row
-
 -- the craft is over: progress at its target, no step left, or no durability
 abbrev pub ended : CraftContext → CraftState → Bool
 ended c s = leb (c .«progress_target») (s .progress) || leb (c .«step_max») (s .step) || leZ (s .durability) (pos 0)
-
--- legal in any state, by its row
-abbrev pub legalOf : CraftContext → CraftState → Mode → ℕ → Attributes → Bool
-legalOf c s mode n row = not (ended c s) && passedOf c s mode n row
 
 -- ---- by any table
 
 -- one candidate by its row
 abbrev pub allowsBy : Rows → CraftContext → CraftState → Mode → ℕ → Bool
 allowsBy rows c s mode n = allowedOf c s mode n (rows n)
-
-abbrev pub passesBy : Rows → CraftContext → CraftState → Mode → ℕ → Bool
-passesBy rows c s mode n = passedOf c s mode n (rows n)
 
 unfoldable pub movesBy : Rows → CraftContext → CraftState → Mode → ℕ
 movesBy rows c s mode = cond (ended c s) 0 (keepOf (allowsBy rows c s mode) (c .«action_pool» .0))

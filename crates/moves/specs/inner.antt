@@ -1,3 +1,4 @@
 -- For the contracts of inner functions: what they ask and give. No public statement cites it.
 -- Assumes nothing.
 pub mod Sets
+pub mod Legal

@@ -8,7 +8,7 @@ ghost use Rattle.action.specs.Table.{attributesOf};
 ghost use Rattle.action_set.specs.Sets.{SetIn, keepOf};
 ghost use Rattle.craft_state.specs.Inside.{CraftIn};
 ghost use Rattle.moves.specs.Rules.{mayProgress};
-ghost use Rattle.moves.specs.inner.Sets.{amountOf, finishesBy};
+ghost use Rattle.moves.specs.inner.Sets.{amountOf, finishesWith};
 use super::sets::PROGRESS;
 use super::sets::PURE_PROGRESS;
 use super::sets::unless;
@@ -70,7 +70,7 @@ fn efficiency_of(n: u8) -> u32
 // Progress reaches its target.
 fn finishes(context: CraftContext, state: CraftState, n: u8) -> bool
     requires { ⌜ CraftIn context state × (n < actions) ⌝ }
-    ensures { λ r. ⌜ r ≡ finishesBy context state (amountOf (attributesOf n .«progress_efficiency»)) ⌝ }
+    ensures { λ r. ⌜ r ≡ finishesWith context state (amountOf (attributesOf n .«progress_efficiency»)) ⌝ }
 {
     let gain = action::calc_progress_increase(
         context.base_progress_factor,
@@ -83,7 +83,7 @@ fn finishes(context: CraftContext, state: CraftState, n: u8) -> bool
 
 fn keep_finishing(context: CraftContext, state: CraftState, set: u32) -> u32
     requires { ⌜ CraftIn context state × SetIn set ⌝ }
-    ensures { λ r. ⌜ (r ≡ keepOf (λ n. finishesBy context state (amountOf (attributesOf n .«progress_efficiency»))) set) × SetIn r ⌝ }
+    ensures { λ r. ⌜ (r ≡ keepOf (λ n. finishesWith context state (amountOf (attributesOf n .«progress_efficiency»))) set) × SetIn r ⌝ }
 {
     let mut kept = set;
     let mut remaining = set;
@@ -98,7 +98,7 @@ fn keep_finishing(context: CraftContext, state: CraftState, set: u32) -> u32
     kept
 }
 
-// Beside each line, the arm of `may_progress`.
+// `may_progress`: of those that finish, and of those that do not.
 pub fn progress_moves(context: CraftContext, state: CraftState, set: u32) -> u32
     requires { ⌜ CraftIn context state × SetIn set ⌝ }
     ensures { λ r. ⌜ (r ≡ keepOf (λ n. mayProgress context state (attributesOf n .«progress_efficiency») (attributesOf n .«quality_efficiency»)) set) × SetIn r ⌝ }

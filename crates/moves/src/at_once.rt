@@ -9,8 +9,8 @@ use super::amounts::keep_payable;
 use super::amounts::progress_moves;
 use super::legal::has_ended;
 use super::mode::Mode;
+use super::sets::ONLY_TRAINED_EYE;
 use super::sets::QUALITY;
-use super::sets::TRAINED_EYE;
 use super::sets::kind_moves;
 use super::sets::own_moves;
 use super::sets::strict_moves;
@@ -20,20 +20,20 @@ use super::strict::is_eye_alone;
 use craft_context::CraftContext;
 use craft_state::CraftState;
 
-// Beside each line, `strictly`: what strict mode leaves of what the own rules left.
+// The rules of `strictly`, in another order: what strict mode leaves of what the own rules left.
 fn strict_part(context: CraftContext, state: CraftState, set: u32) -> u32
     requires { ⌜ CraftIn context state × SetIn set ⌝ }
     ensures { λ r. ⌜ (r ≡ keepOf (λ n. strictBeyond context state n (attributesOf n)) set) × SetIn r ⌝ }
 {
     if is_eye_alone(context, state) {
-        return within(set, TRAINED_EYE);
+        return within(set, ONLY_TRAINED_EYE);
     }
     let strict = strict_moves(context, state, set);
     let kind = kind_moves(context, state, strict);
     progress_moves(context, state, kind)
 }
 
-// Beside each line, `legal_moves` and `allowed`.
+// The rules of `allowed`, in another order: the price, which is a walk, comes last.
 pub fn moves_at_once(context: CraftContext, state: CraftState, mode: Mode) -> u32
     requires { ⌜ CraftIn context state ⌝ }
     ensures { λ r. ⌜ (r ≡ movesOf context state mode) × SetIn r ⌝ }

@@ -22,6 +22,9 @@ pub const MASTERS_MEND_FROM: i8 = 25;
 
 pub const IMMACULATE_MEND_ABOVE: i8 = 45;
 
+// QuickInnovation waits for more than this part of the quality.
+pub const QUICK_PART: u32 = 3;
+
 pub fn is_unused(perfection: Perfection) -> bool
     ensures { λ r. ⌜ r ≡ isUnused perfection ⌝ }
 {
@@ -114,7 +117,7 @@ pub fn strict_rule(context: CraftContext, state: CraftState, n: u8) -> bool
         action::VENERATION | action::INNOVATION => {
             (state.buffs.veneration <= 1) & (state.buffs.innovation <= 1)
         }
-        action::QUICK_INNOVATION => state.quality > context.quality_target / 3,
+        action::QUICK_INNOVATION => state.quality > context.quality_target / QUICK_PART,
         _ => true,
     }
 }

@@ -1,4 +1,4 @@
-// The rules of own.rt and strict.rt that are read from a state alone, an arm to a line, each over the set of its actions.
+// The rules of own.rt and strict.rt over sets: each takes its own actions off where it does not hold.
 ghost use mathlib.Core.Path.{_≡_};
 ghost use Prim.Native.Nat.{_<_};
 ghost use Rattle.laws.specs.Bits.{has};
@@ -11,6 +11,7 @@ ghost use Rattle.moves.specs.inner.Sets.{unlessOf, kindRule};
 use super::own::IMMACULATE_MEND_ABOVE;
 use super::own::MASTERS_MEND_FROM;
 use super::own::OBSERVE_AND_TOUCH;
+use super::own::QUICK_PART;
 use super::own::can_withstand;
 use super::own::is_unused;
 use super::own::lost;
@@ -61,31 +62,31 @@ pub const PROGRESS: u32 = PURE_PROGRESS | BOTH;
 const NOT_ADVANCED_TOUCH: u32 = ActionSet::LIMIT - 1 - (1 << action::ADVANCED_TOUCH);
 
 // Each alone.
-pub const TRAINED_EYE: u32 = 1 << action::TRAINED_EYE;
+pub const ONLY_TRAINED_EYE: u32 = 1 << action::TRAINED_EYE;
 
-const BYREGOTS_BLESSING: u32 = 1 << action::BYREGOTS_BLESSING;
+const ONLY_BYREGOTS_BLESSING: u32 = 1 << action::BYREGOTS_BLESSING;
 
-const TRAINED_FINESSE: u32 = 1 << action::TRAINED_FINESSE;
+const ONLY_TRAINED_FINESSE: u32 = 1 << action::TRAINED_FINESSE;
 
-const TRAINED_PERFECTION: u32 = 1 << action::TRAINED_PERFECTION;
+const ONLY_TRAINED_PERFECTION: u32 = 1 << action::TRAINED_PERFECTION;
 
-const OBSERVE: u32 = 1 << action::OBSERVE;
+const ONLY_OBSERVE: u32 = 1 << action::OBSERVE;
 
-const GROUNDWORK: u32 = 1 << action::GROUNDWORK;
+const ONLY_GROUNDWORK: u32 = 1 << action::GROUNDWORK;
 
-const GROUNDWORK_TRAITED: u32 = 1 << action::GROUNDWORK_TRAITED;
+const ONLY_GROUNDWORK_TRAITED: u32 = 1 << action::GROUNDWORK_TRAITED;
 
-const REFINED_TOUCH: u32 = 1 << action::REFINED_TOUCH;
+const ONLY_REFINED_TOUCH: u32 = 1 << action::REFINED_TOUCH;
 
-const MANIPULATION: u32 = 1 << action::MANIPULATION;
+const ONLY_MANIPULATION: u32 = 1 << action::MANIPULATION;
 
-const QUICK_INNOVATION: u32 = 1 << action::QUICK_INNOVATION;
+const ONLY_QUICK_INNOVATION: u32 = 1 << action::QUICK_INNOVATION;
 
-const IMMACULATE_MEND: u32 = 1 << action::IMMACULATE_MEND;
+const ONLY_IMMACULATE_MEND: u32 = 1 << action::IMMACULATE_MEND;
 
-const MASTERS_MEND: u32 = 1 << action::MASTERS_MEND;
+const ONLY_MASTERS_MEND: u32 = 1 << action::MASTERS_MEND;
 
-const GREAT_STRIDES: u32 = 1 << action::GREAT_STRIDES;
+const ONLY_GREAT_STRIDES: u32 = 1 << action::GREAT_STRIDES;
 
 // What a rule over some actions leaves of a set: all where it holds, else the others.
 pub fn unless(set: u32, over: u32, holds: bool) -> u32
@@ -116,7 +117,7 @@ fn is_withstood(state: CraftState, n: u8) -> bool
     can_withstand(state, cost)
 }
 
-// Beside each line, the arm of `own_rule`.
+// The arms of `own_rule`, a line to each; the two Groundworks have a row each, and so a line each.
 pub fn own_moves(context: CraftContext, state: CraftState, set: u32) -> u32
     requires { ⌜ SetIn set ⌝ }
     ensures { λ r. ⌜ (r ≡ keepOf (λ n. ownRule context state n (attributesOf n)) set) × SetIn r ⌝ }
@@ -129,20 +130,20 @@ pub fn own_moves(context: CraftContext, state: CraftState, set: u32) -> u32
     let traited = is_withstood(state, action::GROUNDWORK_TRAITED);
     let quick = state.quick_innovation_available & (state.buffs.innovation == 0);
     let set = unless(set, OPENERS, first);
-    let set = unless(set, TRAINED_EYE, first & !context.is_expert);
-    let set = unless(set, BYREGOTS_BLESSING, quiet > 0);
-    let set = unless(set, TRAINED_FINESSE, quiet == Buffs::INNER_QUIET_MOST);
-    let set = unless(set, TRAINED_PERFECTION, is_unused(perfection));
+    let set = unless(set, ONLY_TRAINED_EYE, first & !context.is_expert);
+    let set = unless(set, ONLY_BYREGOTS_BLESSING, quiet > 0);
+    let set = unless(set, ONLY_TRAINED_FINESSE, quiet == Buffs::INNER_QUIET_MOST);
+    let set = unless(set, ONLY_TRAINED_PERFECTION, is_unused(perfection));
     let set = unless(set, PRUDENT, no_waste_not(state));
-    let set = unless(set, OBSERVE, !on_observe(combo));
-    let set = unless(set, GROUNDWORK, groundwork);
-    let set = unless(set, GROUNDWORK_TRAITED, traited);
-    let set = unless(set, REFINED_TOUCH, step::on_basic_touch(combo));
-    let set = unless(set, MANIPULATION, context.use_manipulation);
-    unless(set, QUICK_INNOVATION, quick)
+    let set = unless(set, ONLY_OBSERVE, !on_observe(combo));
+    let set = unless(set, ONLY_GROUNDWORK, groundwork);
+    let set = unless(set, ONLY_GROUNDWORK_TRAITED, traited);
+    let set = unless(set, ONLY_REFINED_TOUCH, step::on_basic_touch(combo));
+    let set = unless(set, ONLY_MANIPULATION, context.use_manipulation);
+    unless(set, ONLY_QUICK_INNOVATION, quick)
 }
 
-// Beside each line, the arm of `strict_rule`.
+// The arms of `strict_rule`, a line to each.
 pub fn strict_moves(context: CraftContext, state: CraftState, set: u32) -> u32
     requires { ⌜ DurabilityIn (state .durability) (context .«durability_max») × SetIn set ⌝ }
     ensures { λ r. ⌜ (r ≡ keepOf (strictRule context state) set) × SetIn r ⌝ }
@@ -151,19 +152,19 @@ pub fn strict_moves(context: CraftContext, state: CraftState, set: u32) -> u32
     let worn = off > IMMACULATE_MEND_ABOVE;
     let unmended = state.buffs.manipulation == 0;
     let calm = (state.buffs.veneration <= 1) & (state.buffs.innovation <= 1);
-    let third = context.quality_target / 3;
-    let set = unless(set, BYREGOTS_BLESSING, state.buffs.inner_quiet > 1);
+    let third = context.quality_target / QUICK_PART;
+    let set = unless(set, ONLY_BYREGOTS_BLESSING, state.buffs.inner_quiet > 1);
     let set = unless(set, WASTE_NOTS, no_waste_not(state));
-    let set = unless(set, OBSERVE, state.cp >= OBSERVE_AND_TOUCH);
-    let set = unless(set, IMMACULATE_MEND, worn & unmended);
-    let set = unless(set, MASTERS_MEND, off >= MASTERS_MEND_FROM);
-    let set = unless(set, MANIPULATION, unmended);
-    let set = unless(set, GREAT_STRIDES, state.buffs.great_strides == 0);
+    let set = unless(set, ONLY_OBSERVE, state.cp >= OBSERVE_AND_TOUCH);
+    let set = unless(set, ONLY_IMMACULATE_MEND, worn & unmended);
+    let set = unless(set, ONLY_MASTERS_MEND, off >= MASTERS_MEND_FROM);
+    let set = unless(set, ONLY_MANIPULATION, unmended);
+    let set = unless(set, ONLY_GREAT_STRIDES, state.buffs.great_strides == 0);
     let set = unless(set, LASTING, calm);
-    unless(set, QUICK_INNOVATION, state.quality > third)
+    unless(set, ONLY_QUICK_INNOVATION, state.quality > third)
 }
 
-// Beside each line, `is_outside_memory`, `is_outside_veneration` and `may_follow`.
+// `is_outside_memory`, `is_outside_veneration` and `may_follow`, a line to each.
 pub fn kind_moves(context: CraftContext, state: CraftState, set: u32) -> u32
     requires { ⌜ SetIn set ⌝ }
     ensures { λ r. ⌜ (r ≡ keepOf (λ n. kindRule context state n (attributesOf n)) set) × SetIn r ⌝ }

@@ -34,9 +34,9 @@ EachLegal rows c mode s [] = Unit {0}
 EachLegal rows c mode s (n ∷ rest) = (has (movesBy rows c s mode) n ≡ true) × EachLegal rows c mode (executeBy rows c s n) rest
 
 -- what was charged on the way, each price by the combo of the state
-unfoldable pub chargesOf : Rows → CraftContext → CraftState → List ℕ → ℕ
-chargesOf rows c s [] = 0
-chargesOf rows c s (n ∷ rest) = chargeOf n (s .«previous_combo_action») (rows n .«cp_cost») + chargesOf rows c (executeBy rows c s n) rest
+unfoldable pub chargesBy : Rows → CraftContext → CraftState → List ℕ → ℕ
+chargesBy rows c s [] = 0
+chargesBy rows c s (n ∷ rest) = chargeOf n (s .«previous_combo_action») (rows n .«cp_cost») + chargesBy rows c (executeBy rows c s n) rest
 
 module _ (rows : Rows) (c : CraftContext) (mode : Mode) (list : List ℕ) where
   -- the first k actions of the list, and the state after them
@@ -54,7 +54,7 @@ module _ (rows : Rows) (c : CraftContext) (mode : Mode) (list : List ℕ) where
     -- points left plus the prices, each read from the list alone, are the starting points
     pub points : reached k .cp + pricesBy rows (first k) ≡ c .«cp_max»
     -- and these prices are what was charged
-    pub charged : pricesBy rows (first k) ≡ chargesOf rows c (startOf c) (first k)
+    pub charged : pricesBy rows (first k) ≡ chargesBy rows c (startOf c) (first k)
     -- step is one plus those other than QuickInnovation, and at most 255
     pub step : reached k .step ≡ stepLeast + stepsIn (first k)
     pub stepTo : reached k .step ≤ stepMost

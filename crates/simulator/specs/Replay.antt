@@ -29,20 +29,20 @@ goesOn R.Continuing = true
 abbrev pub stoppedAt : Rows → CraftContext → Mode → CraftState → ℕ → CraftResult → Replay
 stoppedAt rows c mode s executed result = record { state = s; moves = record { 0 = movesBy rows c s mode }; result = result; executed = executed }
 
-unfoldable pub stopOf : Rows → CraftContext → Mode → CraftState → ℕ → Replay
-stopOf rows c mode s executed = stoppedAt rows c mode s executed (resultBy rows c s mode)
+unfoldable pub stopBy : Rows → CraftContext → Mode → CraftState → ℕ → Replay
+stopBy rows c mode s executed = stoppedAt rows c mode s executed (resultBy rows c s mode)
 
-unfoldable pub slipOf : Rows → CraftContext → Mode → CraftState → ℕ → Replay
-slipOf rows c mode s executed = stoppedAt rows c mode s executed R.InvalidActionFailure
+unfoldable pub slipBy : Rows → CraftContext → Mode → CraftState → ℕ → Replay
+slipBy rows c mode s executed = stoppedAt rows c mode s executed R.InvalidActionFailure
 
 -- ---- the rest of a list in a state, after so many actions
 
 unfoldable pub replayFrom : Rows → CraftContext → Mode → CraftState → ℕ → List ℕ → Replay
-replayFrom rows c mode s executed [] = stopOf rows c mode s executed
+replayFrom rows c mode s executed [] = stopBy rows c mode s executed
 replayFrom rows c mode s executed (n ∷ rest) =
     cond (goesOn (resultBy rows c s mode))
-    (cond (has (movesBy rows c s mode) n) (replayFrom rows c mode (executeBy rows c s n) (executed + 1) rest) (slipOf rows c mode s executed))
-    (stopOf rows c mode s executed)
+    (cond (has (movesBy rows c s mode) n) (replayFrom rows c mode (executeBy rows c s n) (executed + 1) rest) (slipBy rows c mode s executed))
+    (stopBy rows c mode s executed)
 
 unfoldable pub replayBy : Rows → CraftContext → Mode → List ℕ → Replay
 replayBy rows c mode list = replayFrom rows c mode (startOf c) 0 list

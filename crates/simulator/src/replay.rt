@@ -10,7 +10,7 @@ ghost use Rattle.step.specs.inner.Asked.{Playable};
 ghost use Rattle.step.specs.Step.{executedOf};
 ghost use Rattle.score.specs.Result.{ScoreIsNumber};
 ghost use Rattle.simulator.specs.Replay.{replayOf};
-ghost use Rattle.simulator.specs.inner.Settled.{settledBy};
+ghost use Rattle.simulator.specs.inner.Settled.{settledOf};
 use action::Attributes;
 use action_set::ActionSet;
 use craft_context::CraftContext;
@@ -27,7 +27,7 @@ pub struct Replay {
     pub executed: usize,
 }
 
-// The state after a legal action; an illegal one leaves it as it was.
+// The state after an action that passed the test; what did not pass would leave it as it was.
 fn play(context: CraftContext, state: CraftState, n: u8, row: Attributes, legal: bool) -> CraftState
     requires { ⌜ (legal ≡ true → Playable context state n row) × RowBounds n row ⌝ }
     ensures { λ r. ⌜ r ≡ cond legal (executedOf context state n row) state ⌝ }
@@ -41,7 +41,7 @@ fn play(context: CraftContext, state: CraftState, n: u8, row: Attributes, legal:
 // What the loop was broken with, once the moves are known: a craft that goes on with none left is a failure.
 fn settled(result: CraftResult, moves: u32) -> CraftResult
     requires { ⌜ ScoreIsNumber result ⌝ }
-    ensures { λ r. ⌜ (r ≡ settledBy result moves) × ScoreIsNumber r ⌝ }
+    ensures { λ r. ⌜ (r ≡ settledOf result moves) × ScoreIsNumber r ⌝ }
 {
     if let CraftResult::Continuing = result {
         if moves == 0 {

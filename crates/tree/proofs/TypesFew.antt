@@ -1,5 +1,6 @@
 -- The functions of a tree of few records, as walks see them (crates/walks/proofs/Functions.antt).
 -- Assumes nothing.
+use mathlib.Core.Bool.{_&&_}
 use mathlib.Core.Path.{_≡_}
 use mathlib.Core.List.{[], _∷_}
 use Prim.Native.Nat.{_≤_, _<_}
@@ -9,15 +10,15 @@ use lib.ListN.{length}
 use denote.Plain.{UInt}
 use Rattle.tree.specs.Paths.{Solves}
 use Rattle.tree.specs.inner.Sound.{SoundTree}
-use Rattle.tree.specs.inner.Few.{few, entryAt, notedOf, Noting, childNoted, Blank, Bests, Rises, wayOf}
+use Rattle.tree.specs.inner.Few.{few, worthATable, entryAt, notedOf, Noting, childNoted, Blank, Bests, Rises, wayOf}
 use Rattle.tree.proofs.node.Node as T
 use Rattle.walks.proofs.Values.{usize′, bool′, unit′}
 use Rattle.walks.proofs.Functions.{nothing-asked, that, MutFn, ShrFn, PlainFn, BothFn}
 use Rattle.tree.proofs.Types.{node′}
 use Rattle.tree.proofs.TypesEntries.{solved′}
 
-abbrev pub is-few′ : PlainFn
-is-few′ = record { takes = usize′ ∷ []; gives = bool′; asks = nothing-asked; says = λ a r. r ≡ leb (a .0) few }
+abbrev pub fits-table′ : PlainFn
+fits-table′ = record { takes = usize′ ∷ []; gives = bool′; asks = nothing-asked; says = λ a r. r ≡ leb worthATable (a .0) && leb (a .0) few }
 
 abbrev pub best-at′ : ShrFn (UInt w32)
 best-at′ = record { takes = usize′ ∷ []; gives = usize′; asks = that (λ xs a. a .0 < length xs); says = λ xs a r. r ≡ entryAt xs (a .0) }

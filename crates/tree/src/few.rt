@@ -1,10 +1,11 @@
 // The way down in a tree of few records: one pass over them finds the best child of each.
 ghost use mathlib.Core.Path.{_≡_};
+ghost use mathlib.Core.Bool.{_&&_};
 ghost use Prim.Native.Nat.{_≤_, _<_};
 ghost use lib.Dec.{leb};
 ghost use lib.ListN.{length};
 ghost use Rattle.tree.specs.Paths.{Solves};
-ghost use Rattle.tree.specs.inner.Few.{few, entryAt, notedOf, Noting, childNoted, Blank, Bests, Rises, wayOf};
+ghost use Rattle.tree.specs.inner.Few.{few, worthATable, entryAt, notedOf, Noting, childNoted, Blank, Bests, Rises, wayOf};
 ghost use Rattle.tree.specs.inner.Sound.{SoundTree};
 use super::best::Best;
 use super::best::is_better;
@@ -18,10 +19,13 @@ use refusal::Refusal;
 // As many records as the table of their best children has room for.
 const FEW: usize = 4096;
 
-pub fn is_few(count: usize) -> bool
-    ensures { λ r. ⌜ r ≡ leb count few ⌝ }
+// Below so many a search at each step is over before the table is cleared.
+const WORTH_A_TABLE: usize = 24;
+
+pub fn fits_table(count: usize) -> bool
+    ensures { λ r. ⌜ r ≡ leb worthATable count && leb count few ⌝ }
 {
-    count <= FEW
+    (WORTH_A_TABLE <= count) & (count <= FEW)
 }
 
 // The best child of record p that the table has; 0 where there is none.

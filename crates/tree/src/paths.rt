@@ -4,7 +4,7 @@ ghost use lib.Dec.{leb};
 ghost use Rattle.tree.specs.Paths.{Lists, Solves};
 use super::descend::put_solution;
 use super::descend::solution_len;
-use super::few::is_few;
+use super::few::fits_table;
 use super::few::solve_few;
 use super::grow::is_used;
 use super::listing::count_children;
@@ -61,7 +61,7 @@ pub fn solution(nodes: &[Node], out: &mut [u8], count: usize) -> Solved
     if !sound {
         return Solved::Refused(Refusal::UnsoundTree);
     }
-    if is_few(count) {
+    if fits_table(count) {
         return solve_few(nodes, out, count);
     }
     let needed = solution_len(nodes, count);

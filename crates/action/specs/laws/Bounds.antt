@@ -8,7 +8,8 @@ use lib.Dec.{T, leb, leb→le, lit≤, eqb}
 use borrow.Author.Tests.{eqb-true}
 use Rattle.laws.specs.laws.Same.{below, below-at}
 use Rattle.action.specs.Actions as A
-use Rattle.action.specs.Limits.{progressMost, qualityMost, wearMost, priceMost, discountPrice, dearest}
+use Rattle.action.specs.Limits.{progressMost, qualityMost, wearMost, priceMost, discountPrice}
+use Rattle.action.specs.inner.Dearest.{dearest}
 use Rattle.action.specs.Known.{actions}
 use Rattle.action.specs.Amount.{AtMost, AtLeast}
 use Rattle.action.specs.Table.{actionOf, attributesOf}

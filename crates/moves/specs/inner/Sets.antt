@@ -31,8 +31,8 @@ amountOf (Of amount) = amount
 amountOf Nothing = 0
 
 -- with that efficiency progress reaches its target
-abbrev pub finishesBy : CraftContext → CraftState → ℕ → Bool
-finishesBy c s efficiency =
+abbrev pub finishesWith : CraftContext → CraftState → ℕ → Bool
+finishesWith c s efficiency =
     leb (c .«progress_target») (s .progress + progressGainOf (c .«base_progress_factor») efficiency (s .buffs .veneration) (s .buffs .«muscle_memory»))
 
 -- what strict mode asks beyond an action's own rule

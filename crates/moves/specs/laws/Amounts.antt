@@ -19,7 +19,7 @@ use Rattle.action_set.specs.Sets.{SetIn, setOf, keepOf}
 use Rattle.craft_context.specs.declared.context.CraftContext.{CraftContext}
 use Rattle.craft_state.specs.declared.state.CraftState.{CraftState}
 use Rattle.moves.specs.Rules.{mayProgress}
-use Rattle.moves.specs.inner.Sets.{unlessOf, amountOf, finishesBy}
+use Rattle.moves.specs.inner.Sets.{unlessOf, amountOf, finishesWith}
 use Rattle.moves.specs.laws.Sets.{works, onlyWorks}
 
 -- ---- the price
@@ -45,7 +45,7 @@ payable-all rows cheap points enough set h =
 module _ (c : CraftContext) (s : CraftState) (rows : Rows) (bounded : RowsIn rows) where
   -- n finishes
   abbrev finish : ℕ → Bool
-  finish n = finishesBy c s (amountOf (rows n .«progress_efficiency»))
+  finish n = finishesWith c s (amountOf (rows n .«progress_efficiency»))
 
   -- those of a set that finish
   abbrev pub finishing : ℕ → ℕ
@@ -59,7 +59,7 @@ module _ (c : CraftContext) (s : CraftState) (rows : Rows) (bounded : RowsIn row
   outside = eqb (s .buffs .innovation) 0
 
   -- by the row: those that finish have enough quality, pure progress that does not is outside innovation
-  progress-by : (finishes : Bool) (progress quality : Amount) → finishes ≡ present progress && finishesBy c s (amountOf progress)
+  progress-by : (finishes : Bool) (progress quality : Amount) → finishes ≡ present progress && finishesWith c s (amountOf progress)
       → (not finishes || enough) && (not ((present progress && not (present quality)) && (not finishes || false)) || outside)
       ≡ mayProgress c s progress quality
   progress-by true (Of p) (Of q) e = rw (← e) (and-true enough)

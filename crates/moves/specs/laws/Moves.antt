@@ -31,7 +31,8 @@ use Rattle.step.specs.Step.{executeBy}
 use Rattle.step.specs.laws.Step.{execute-in, execute-pays}
 use Rattle.moves.specs.Modes.{plain, strict}
 use Rattle.moves.specs.Rules.{affords, mayImprove, eyeAlone, outsideMemory, outsideVeneration, afterObserve, mayProgress, ownRule, strictRule}
-use Rattle.moves.specs.Moves.{strictlyOf, allowedOf, ended, legalOf, allowsBy, passesBy, movesBy}
+use Rattle.moves.specs.Moves.{strictlyOf, allowedOf, ended, allowsBy, movesBy}
+use Rattle.moves.specs.inner.Legal.{legalOf, passesBy}
 use Rattle.moves.specs.declared.mode.Mode.{Mode}
 
 -- ---- the set

@@ -7,9 +7,9 @@ use Rattle.score.specs.declared.result.CraftResult.{CraftResult}
 use Rattle.score.specs.declared.result.CraftResult.the-variants as R
 
 -- a craft that goes on with no move left is a failure
-abbrev pub settledBy : CraftResult → ℕ → CraftResult
-settledBy (R.Finished score) moves = R.Finished score
-settledBy R.DurabilityFailure moves = R.DurabilityFailure
-settledBy R.MaxStepsFailure moves = R.MaxStepsFailure
-settledBy R.InvalidActionFailure moves = R.InvalidActionFailure
-settledBy R.Continuing moves = cond (eqb moves 0) R.InvalidActionFailure R.Continuing
+abbrev pub settledOf : CraftResult → ℕ → CraftResult
+settledOf (R.Finished score) moves = R.Finished score
+settledOf R.DurabilityFailure moves = R.DurabilityFailure
+settledOf R.MaxStepsFailure moves = R.MaxStepsFailure
+settledOf R.InvalidActionFailure moves = R.InvalidActionFailure
+settledOf R.Continuing moves = cond (eqb moves 0) R.InvalidActionFailure R.Continuing

@@ -20,7 +20,7 @@ use Rattle.step.specs.Parts.{onBasicTouch, comboAfter}
 use Rattle.step.specs.Step.{executeBy}
 use Rattle.step.specs.laws.Step.{execute-combo}
 use Rattle.simulator.specs.Alone.{discountedAfter, priceAfter, pricesAfter}
-use Rattle.simulator.specs.Promise.{chargesOf}
+use Rattle.simulator.specs.Promise.{chargesBy}
 
 -- a combo that stands for whether the action before was BasicTouch
 abbrev opened : Bool → Combo
@@ -122,8 +122,8 @@ module _ (rows : Rows) where
   -- ---- the whole list, from a state whose combo is that of the last two actions
 
   pub prices-charged : (c : CraftContext) (s : CraftState) (older last : Last) (list : List ℕ) → s .«previous_combo_action» ≡ comboFrom older last
-      → pricesAfter rows older last list ≡ chargesOf rows c s list
-  unfolding pricesAfter chargesOf
+      → pricesAfter rows older last list ≡ chargesBy rows c s list
+  unfolding pricesAfter chargesBy
   prices-charged c s older last [] e = refl
   prices-charged c s older last (n ∷ rest) e =
       let first : priceAfter rows older last n ≡ chargeOf n (s .«previous_combo_action») (rows n .«cp_cost») = rw e (price-same older last n) in

@@ -26,7 +26,7 @@ use Rattle.moves.specs.Modes.{plain, strict}
 use Rattle.score.specs.Score.{cpBonus, partOf, weighedOf, scoreOf}
 use Rattle.score.specs.Result.{judgedBy, verdictOf, scoresIn}
 use Rattle.simulator.specs.declared.replay.Replay.{Replay}
-use Rattle.simulator.specs.Replay.{stopOf, slipOf, replayFrom, replayBy, replayOf}
+use Rattle.simulator.specs.Replay.{stopBy, slipBy, replayFrom, replayBy, replayOf}
 
 -- ---- what is given: the common context, and what a craft changes of it
 
@@ -216,7 +216,7 @@ saidOf r = r .seen
 -- THE theorem: what is seen of each replay is what its row says
 pub bench-crafts : map workedOf table ≡ map saidOf table
 unfolding table elem
-    replayBy replayFrom stopOf slipOf startOf movesBy allowedOf strictlyOf ownRule strictRule has collect
+    replayBy replayFrom stopBy slipBy startOf movesBy allowedOf strictlyOf ownRule strictRule has collect
     executedOf begunOf progressedOf improvedOf wornOf refreshedOf paidOf combinedOf timedOf affectedOf tickedOf effectOf actionOf
     judgedBy scoreOf weighedOf toBits ofInt sub mul div lt
 bench-crafts = refl

@@ -25,15 +25,16 @@ use Rattle.craft_state.specs.Start.{startOf}
 use Rattle.step.specs.Step.{executeBy}
 use Rattle.step.specs.laws.Step.{execute-step, execute-quick}
 use Rattle.moves.specs.declared.mode.Mode.{Mode}
-use Rattle.moves.specs.Moves.{passesBy, ended, movesBy}
+use Rattle.moves.specs.Moves.{ended, movesBy}
+use Rattle.moves.specs.inner.Legal.{passesBy}
 use Rattle.moves.specs.laws.Moves.{has-moves, legal-playable, legal-quick, legal-keeps, legal-pays}
 use Rattle.score.specs.Result.{resultBy}
 use Rattle.simulator.specs.declared.replay.Replay.{Replay}
-use Rattle.simulator.specs.Replay.{goesOn, stopOf, slipOf, replayFrom, replayBy}
+use Rattle.simulator.specs.Replay.{goesOn, stopBy, slipBy, replayFrom, replayBy}
 use Rattle.simulator.specs.laws.Replay.{replay-on}
 use Rattle.simulator.specs.Alone.{stepsIn}
 use Rattle.simulator.specs.laws.Alone.{prices-charged}
-use Rattle.simulator.specs.Promise.{after, EachLegal, chargesOf, AfterFirst, Longest, PromiseBy}
+use Rattle.simulator.specs.Promise.{after, EachLegal, chargesBy, AfterFirst, Longest, PromiseBy}
 use Rattle.simulator.specs.inner.Known.{AllKnown}
 
 -- ---- known actions
@@ -72,8 +73,8 @@ module _ (rows : Rows) (bounded : RowsIn rows) (c : CraftContext) (mode : Mode) 
   along-inside s (n ∷ rest) g h l = along-inside (executeBy rows c s n) rest (legal-keeps rows bounded c s mode n g (h .0) (l .0)) (h .1) (l .1)
 
   along-points : (s : CraftState) (list : List ℕ) → CraftIn c s → AllKnown list → EachLegal rows c mode s list
-      → after rows c s list .cp + chargesOf rows c s list ≡ s .cp
-  unfolding EachLegal after chargesOf
+      → after rows c s list .cp + chargesBy rows c s list ≡ s .cp
+  unfolding EachLegal after chargesBy
   along-points s [] g h l = add-zero (s .cp)
   along-points s (n ∷ rest) g h l =
       omega (arith, along-points (executeBy rows c s n) rest (legal-keeps rows bounded c s mode n g (h .0) (l .0)) (h .1) (l .1), legal-pays rows bounded c s mode n g (h .0) (l .0))
@@ -147,7 +148,7 @@ module _ (rows : Rows) (bounded : RowsIn rows) (c : CraftContext) (mode : Mode) 
     longest : (j : ℕ) → j ≤ length list → EachLegal rows c mode s (take j list) → j ≤ e
 
   run : (s : CraftState) (k : ℕ) (list : List ℕ) → AllKnown list → Run s k list (lead s list)
-  unfolding lead replayFrom stopOf slipOf after EachLegal
+  unfolding lead replayFrom stopBy slipBy after EachLegal
   run s k [] h = record { executed = sym (add-zero k); state = refl; part = le-refl 0; legal = tt; longest = λ j p l. p }
   run s k (n ∷ rest) h = by (has (movesBy rows c s mode) n) refl (run (executeBy rows c s n) (k + 1) rest (h .1))
     where
@@ -172,7 +173,7 @@ module _ (rows : Rows) (bounded : RowsIn rows) (c : CraftContext) (mode : Mode) 
           record { executed = rw t (here .0); state = rw t (here .1); part = zero-le; legal = tt; longest = none }
         where
           stays : (g : Bool)
-              → (cond g (slipOf rows c mode s k) (stopOf rows c mode s k) .executed ≡ k + 0) × (cond g (slipOf rows c mode s k) (stopOf rows c mode s k) .state ≡ s)
+              → (cond g (slipBy rows c mode s k) (stopBy rows c mode s k) .executed ≡ k + 0) × (cond g (slipBy rows c mode s k) (stopBy rows c mode s k) .state ≡ s)
           stays true = (sym (add-zero k), refl)
           stays false = (sym (add-zero k), refl)
 

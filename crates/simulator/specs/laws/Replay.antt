@@ -22,15 +22,16 @@ use Rattle.craft_context.specs.declared.context.CraftContext.{CraftContext}
 use Rattle.craft_state.specs.declared.state.CraftState.{CraftState}
 use Rattle.step.specs.Step.{executeBy}
 use Rattle.moves.specs.declared.mode.Mode.{Mode}
-use Rattle.moves.specs.Moves.{passesBy, ended, movesBy}
+use Rattle.moves.specs.Moves.{ended, movesBy}
+use Rattle.moves.specs.inner.Legal.{passesBy}
 use Rattle.moves.specs.laws.Moves.{has-moves}
 use Rattle.score.specs.declared.result.CraftResult.{CraftResult}
 use Rattle.score.specs.declared.result.CraftResult.the-variants as R
 use Rattle.score.specs.Score.{scoreOf}
 use Rattle.score.specs.Result.{judgedBy, resultBy}
-use Rattle.simulator.specs.Replay.{goesOn, stoppedAt, stopOf, slipOf, replayFrom}
+use Rattle.simulator.specs.Replay.{goesOn, stoppedAt, stopBy, slipBy, replayFrom}
 use Rattle.simulator.specs.declared.replay.Replay.{Replay}
-use Rattle.simulator.specs.inner.Settled.{settledBy}
+use Rattle.simulator.specs.inner.Settled.{settledOf}
 
 module _ (rows : Rows) (c : CraftContext) (mode : Mode) (s : CraftState) where
   -- ---- the result of a state that has ended, and of one that has not
@@ -62,14 +63,14 @@ module _ (rows : Rows) (c : CraftContext) (mode : Mode) (s : CraftState) where
 
   -- ---- the same by the result that is found without the moves
 
-  settled-ended : ended c s ≡ true → resultBy rows c s mode ≡ settledBy (judgedBy c s 0) (movesBy rows c s mode)
+  settled-ended : ended c s ≡ true → resultBy rows c s mode ≡ settledOf (judgedBy c s 0) (movesBy rows c s mode)
   unfolding judgedBy
   settled-ended = by (leb (c .«progress_target») (s .progress)) (leb (c .«step_max») (s .step)) (leZ (s .durability) (pos 0))
     where
       by : (a b d : Bool) → a || b || d ≡ true
           → cond a (R.Finished (scoreOf c s))
           (cond d R.DurabilityFailure (cond b R.MaxStepsFailure (cond (eqb (movesBy rows c s mode) 0) R.InvalidActionFailure R.Continuing)))
-          ≡ settledBy
+          ≡ settledOf
           (cond a (R.Finished (scoreOf c s)) (cond d R.DurabilityFailure (cond b R.MaxStepsFailure (cond true R.InvalidActionFailure R.Continuing))))
           (movesBy rows c s mode)
       by true b d e = refl
@@ -79,7 +80,7 @@ module _ (rows : Rows) (c : CraftContext) (mode : Mode) (s : CraftState) where
 
   -- what is reported where the loop was broken with a result
   abbrev pub brokenWith : ℕ → CraftResult → Replay
-  brokenWith k result = stoppedAt rows c mode s k (settledBy result (movesBy rows c s mode))
+  brokenWith k result = stoppedAt rows c mode s k (settledOf result (movesBy rows c s mode))
 
   -- a legal move keeps the craft going
   legal-on : (n : ℕ) → ended c s ≡ false → has (movesBy rows c s mode) n ≡ true → goesOn (resultBy rows c s mode) ≡ true
@@ -100,24 +101,24 @@ module _ (rows : Rows) (c : CraftContext) (mode : Mode) (s : CraftState) where
     unfolding replayFrom
     replay-on k rest e p = rw (legal-on n e (legal-is e p), legal-is e p)
 
-    pub replay-slip : (k : ℕ) (rest : List ℕ) → ended c s ≡ false → passesBy rows c s mode n ≡ false → replayFrom rows c mode s k (n ∷ rest) ≡ slipOf rows c mode s k
-    unfolding replayFrom stopOf slipOf
+    pub replay-slip : (k : ℕ) (rest : List ℕ) → ended c s ≡ false → passesBy rows c s mode n ≡ false → replayFrom rows c mode s k (n ∷ rest) ≡ slipBy rows c mode s k
+    unfolding replayFrom stopBy slipBy
     replay-slip k rest e p = rw (legal-is e p, going-result e) (by (eqb (movesBy rows c s mode) 0))
       where
         by : (b : Bool)
-            → cond (goesOn (cond b R.InvalidActionFailure R.Continuing)) (slipOf rows c mode s k)
+            → cond (goesOn (cond b R.InvalidActionFailure R.Continuing)) (slipBy rows c mode s k)
             (record { state = s; moves = record { 0 = movesBy rows c s mode }; result = cond b R.InvalidActionFailure R.Continuing; executed = k })
             ≡ record { state = s; moves = record { 0 = movesBy rows c s mode }; result = R.InvalidActionFailure; executed = k }
         by true = refl
         by false = refl
 
   pub replay-ended : (k : ℕ) (list : List ℕ) → ended c s ≡ true → replayFrom rows c mode s k list ≡ brokenWith k (judgedBy c s 0)
-  unfolding replayFrom stopOf
+  unfolding replayFrom stopBy
   replay-ended k [] e = ap (stoppedAt rows c mode s k) (settled-ended e)
   replay-ended k (n ∷ rest) e = rw (ended-stops e) (ap (stoppedAt rows c mode s k) (settled-ended e))
 
   replay-none : (k : ℕ) → ended c s ≡ false → replayFrom rows c mode s k [] ≡ brokenWith k R.Continuing
-  unfolding replayFrom stopOf
+  unfolding replayFrom stopBy
   replay-none k e = ap (stoppedAt rows c mode s k) (going-result e)
 
   -- ---- the same of a list from a place on
@@ -129,7 +130,7 @@ module _ (rows : Rows) (c : CraftContext) (mode : Mode) (s : CraftState) where
 
     pub place-slip : i < length list → getD list i 0 < actions → ended c s ≡ false → passesBy rows c s mode (getD list i 0) ≡ false
         → replayFrom rows c mode s i (drop i list) ≡ brokenWith i R.InvalidActionFailure
-    unfolding slipOf
+    unfolding slipBy
     place-slip l h e p = ap (replayFrom rows c mode s i) (drop-at list i l) ∙ replay-slip (getD list i 0) h i (drop (i + 1) list) e p
 
     pub place-end : i ≤ length list → length list ≤ i → ended c s ≡ false → replayFrom rows c mode s i (drop i list) ≡ brokenWith i R.Continuing

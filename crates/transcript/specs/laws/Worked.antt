@@ -23,7 +23,7 @@ use Rattle.moves.specs.Rules.{ownRule, strictRule}
 use Rattle.moves.specs.Moves.{strictlyOf, allowedOf, movesBy}
 use Rattle.score.specs.Score.{scoreOf}
 use Rattle.score.specs.Result.{judgedBy}
-use Rattle.simulator.specs.Replay.{stopOf, slipOf, replayFrom, replayBy}
+use Rattle.simulator.specs.Replay.{stopBy, slipBy, replayFrom, replayBy}
 use Rattle.transcript.specs.Transcript.{rowOf, rowsOf, finishedOf, resultTextOf, lastLineOf, reportedOf, transcriptOf}
 
 -- eight steps, 200 of progress, and nothing else asked; `pool` are the player's actions
@@ -58,7 +58,7 @@ pub example : transcriptOf (craft 33) (Veneration ∷ BasicSynthesis ∷ BasicSy
     ++ line "finished 3F000000 executed 3 of 3"
 unfolding transcriptOf reportedOf rowOf rowsOf lastLineOf resultTextOf finishedOf
     displayOf shareOf signedShareOf rightOf decimalOf signedOf hexOf
-    replayBy replayFrom stopOf slipOf startOf movesBy allowedOf strictlyOf ownRule strictRule has collect elem
+    replayBy replayFrom stopBy slipBy startOf movesBy allowedOf strictlyOf ownRule strictRule has collect elem
     executedOf begunOf progressedOf improvedOf wornOf refreshedOf paidOf combinedOf timedOf affectedOf tickedOf effectOf actionOf
     judgedBy scoreOf toBits ofInt sub div
 example = refl

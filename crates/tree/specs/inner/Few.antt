@@ -15,6 +15,10 @@ use Rattle.tree.specs.inner.Sound.{SoundTree}
 abbrev pub few : ℕ
 few = 4096
 
+-- and as many as are worth clearing it for
+abbrev pub worthATable : ℕ
+worthATable = 24
+
 -- the best child of record p; 0 where there is none
 abbrev pub entryAt : List ℕ → ℕ → ℕ
 entryAt best p = getD best p 0

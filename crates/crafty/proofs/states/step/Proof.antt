@@ -16,7 +16,8 @@ use Rattle.craft_state.specs.Limits.{givenTests}
 use Rattle.craft_state.specs.Inside.{CraftIn}
 use Rattle.craft_state.specs.laws.Inside.{craft-in}
 use Rattle.step.specs.Step.{executedOf, executeOf}
-use Rattle.moves.specs.Moves.{legalOf, movesOf}
+use Rattle.moves.specs.Moves.{movesOf}
+use Rattle.moves.specs.inner.Legal.{legalOf}
 use Rattle.moves.specs.laws.Moves.{has-moves, legal-playable}
 use Rattle.crafty.specs.States.{stepped, legalTest}
 use Rattle.crafty.specs.declared.states.Stepped.{Stepped}

@@ -9,12 +9,12 @@ use Rattle.laws.specs.laws.Walk.{Walk, start, done, falls, stays, goes}
 use Rattle.action.specs.Known.{actions}
 use Rattle.action.specs.Table.{attributesOf}
 use Rattle.action_set.specs.Sets.{SetIn}
-use Rattle.moves.specs.inner.Sets.{amountOf, finishesBy}
+use Rattle.moves.specs.inner.Sets.{amountOf, finishesWith}
 use Rattle.moves.proofs.amounts.keep_finishing.Statement.{statement}
 use Rattle.moves.proofs.amounts.keep_finishing.Tie as tie
 
 abbrev Inv-loop : tie.InvT-loop
-Inv-loop context state set kept₀ remaining₀ kept remaining = Walk actions (λ n. finishesBy context state (amountOf (attributesOf n .«progress_efficiency»))) set kept remaining
+Inv-loop context state set kept₀ remaining₀ kept remaining = Walk actions (λ n. finishesWith context state (amountOf (attributesOf n .«progress_efficiency»))) set kept remaining
 
 abbrev μ-loop : tie.MeasureT-loop
 μ-loop context state set kept₀ remaining₀ kept remaining = remaining

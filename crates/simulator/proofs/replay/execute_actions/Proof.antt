@@ -17,7 +17,8 @@ use Rattle.craft_state.specs.Inside.{CraftIn}
 use Rattle.craft_state.specs.laws.Inside.{start-in}
 use Rattle.step.specs.inner.Asked.{Playable}
 use Rattle.step.specs.Step.{executedOf, executeOf}
-use Rattle.moves.specs.Moves.{ended, passedOf, passesBy}
+use Rattle.moves.specs.Moves.{ended}
+use Rattle.moves.specs.inner.Legal.{passedOf, passesBy}
 use Rattle.score.specs.Result.{ScoreIsNumber}
 use Rattle.moves.specs.laws.Moves.{legal-keeps, legal-playable}
 use Rattle.simulator.specs.Replay.{replayFrom, replayBy, replayOf}

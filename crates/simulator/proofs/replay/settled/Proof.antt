@@ -10,12 +10,12 @@ use types.Run.{OneOf, miss}
 use Rattle.score.proofs.result.CraftResult as Result
 use Rattle.score.specs.declared.result.CraftResult.{CraftResult}
 use Rattle.score.specs.declared.result.CraftResult.the-variants as R
-use Rattle.simulator.specs.inner.Settled.{settledBy}
+use Rattle.simulator.specs.inner.Settled.{settledOf}
 use Rattle.simulator.proofs.replay.settled.Statement.{statement}
 use Rattle.simulator.proofs.replay.settled.Tie as tie
 
 -- any other result stays
-other : (result : CraftResult) (moves : ℕ) → OneOf (0 ∷ 1 ∷ 2 ∷ 3 ∷ []) (tagOf Result.the-type result) → result ≡ settledBy result moves
+other : (result : CraftResult) (moves : ℕ) → OneOf (0 ∷ 1 ∷ 2 ∷ 3 ∷ []) (tagOf Result.the-type result) → result ≡ settledOf result moves
 other (R.Finished score) moves k = refl
 other R.DurabilityFailure moves k = refl
 other R.MaxStepsFailure moves k = refl

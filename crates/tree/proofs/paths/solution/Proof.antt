@@ -7,6 +7,7 @@ use Rattle.refusal.specs.declared.Refusal.{Refusal}
 use Rattle.refusal.specs.declared.Refusal.the-variants.{UnsoundTree, NoRoom}
 use Rattle.refusal.proofs.Refusal as F
 use Rattle.refusal.proofs.Refusal.Laws as F′
+use Rattle.laws.specs.laws.Tests.{both}
 use Rattle.tree.specs.declared.paths.Solved.the-variants.{Solution, Refused}
 use Rattle.tree.specs.Tree.{isSound}
 use Rattle.tree.specs.inner.Few.{few}
@@ -20,11 +21,11 @@ use Rattle.walks.proofs.Walking.{_≡_, refl, sym, ap, _∙_, ℕ, _≤_, arith
 use Rattle.tree.proofs.TypesGrow.{refusal′, is-sound′}
 use Rattle.tree.proofs.TypesPaths.{solution-len′, put-solution′}
 use Rattle.tree.proofs.TypesEntries.{solved′, has-room′, solution′}
-use Rattle.tree.proofs.TypesFew.{is-few′, solve-few′}
+use Rattle.tree.proofs.TypesFew.{fits-table′, solve-few′}
 use Rattle.tree.proofs.scan.is_sound.Symbol as is-sound
 use Rattle.tree.proofs.scan.is_sound.Met as is-sound-thm
-use Rattle.tree.proofs.few.is_few.Symbol as is-few
-use Rattle.tree.proofs.few.is_few.Met as is-few-thm
+use Rattle.tree.proofs.few.fits_table.Symbol as fits-table
+use Rattle.tree.proofs.few.fits_table.Met as fits-table-thm
 use Rattle.tree.proofs.few.solve_few.Symbol as solve-few
 use Rattle.tree.proofs.few.solve_few.Met as solve-few-thm
 use Rattle.tree.proofs.descend.solution_len.Symbol as solution-len
@@ -42,7 +43,7 @@ unfolding code.routine tablesOf
 solution-spec 𝓤 H 𝓜 𝓖 𝓡 =
     let 𝓣 = tablesOf 𝓤 H 𝓜 (tables 𝓤 H 𝓜 𝓡 code.env) in
     let scans = cited 𝓤 H _ 𝓜 𝓡 code.env is-sound.name is-sound.routine code.calls-tree·scan·is-sound (is-sound-thm.met 𝓤 H 𝓜 𝓖 𝓡) in
-    let asks = cited 𝓤 H _ 𝓜 𝓡 code.env is-few.name is-few.routine code.calls-tree·few·is-few (is-few-thm.met 𝓤 H 𝓜 𝓖 𝓡) in
+    let asks = cited 𝓤 H _ 𝓜 𝓡 code.env fits-table.name fits-table.routine code.calls-tree·few·fits-table (fits-table-thm.met 𝓤 H 𝓜 𝓖 𝓡) in
     let solves = cited 𝓤 H _ 𝓜 𝓡 code.env solve-few.name solve-few.routine code.calls-tree·few·solve-few (solve-few-thm.met 𝓤 H 𝓜 𝓖 𝓡) in
     let measures = cited 𝓤 H _ 𝓜 𝓡 code.env solution-len.name solution-len.routine code.calls-tree·descend·solution-len (solution-len-thm.met 𝓤 H 𝓜 𝓖 𝓡) in
     let compares = cited 𝓤 H _ 𝓜 𝓡 code.env has-room.name has-room.routine code.calls-tree·paths·has-room (has-room-thm.met 𝓤 H 𝓜 𝓖 𝓡) in
@@ -63,11 +64,11 @@ solution-spec 𝓤 H 𝓜 𝓖 𝓡 =
     (λ good.
     let sound : isSound ys n ≡ true = sym s-said ∙ not-false s good in
     let tree : SoundTree ys n = tree-of sound in
-    calls-plain ! 𝓣 then is-few′ asks a are tt (λ _. opd ! refl & no-more !) (λ c c-is c-ty c-said. lands-in ! refl (c-ty .0) $
+    calls-plain ! 𝓣 then fits-table′ asks a are tt (λ _. opd ! refl & no-more !) (λ c c-is c-ty c-said. lands-in ! refl (c-ty .0) $
     guards ! (opd ! refl)
     (λ small G out _.
     reborrows ! (O .room .0) refl refl refl refl refl refl refl refl $
-    calls-both 𝓣 S ys ! O os then solve-few′ solves a are same same-o (tree, leb-true n few (sym c-said ∙ small)) (λ _ _. opd ! refl & opd ! refl & opd ! refl & no-more !) (λ r zs r-is r-ty same′ said. lands-in ! refl (r-ty .0) $ returns ! Q out refl refl $
+    calls-both 𝓣 S ys ! O os then solve-few′ solves a are same same-o (tree, leb-true n few (both _ _ (sym c-said ∙ small) .1)) (λ _ _. opd ! refl & opd ! refl & opd ! refl & no-more !) (λ r zs r-is r-ty same′ said. lands-in ! refl (r-ty .0) $ returns ! Q out refl refl $
     return r zs r-is same′ said))
     (λ _.
     calls-shr 𝓣 S ys ! then solution-len′ measures a are same tree (λ _ _. opd ! refl & opd ! refl & no-more !) (λ needed needed-is needed-ty needed-said. lands-in ! refl (needed-ty .0) $
