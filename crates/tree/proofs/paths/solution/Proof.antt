@@ -10,7 +10,7 @@ use Rattle.refusal.proofs.Refusal.Laws as F′
 use Rattle.laws.specs.laws.Tests.{both}
 use Rattle.tree.specs.declared.paths.Solved.the-variants.{Solution, Refused}
 use Rattle.tree.specs.Tree.{isSound}
-use Rattle.tree.specs.inner.Few.{few}
+use Rattle.tree.specs.inner.Few.{few, worthATable}
 use Rattle.tree.specs.inner.Sound.{SoundTree}
 use Rattle.tree.specs.laws.Tree.{tree-of}
 use Rattle.tree.specs.laws.Paths.{solution-unsound, solution-short, solution-solved}
@@ -68,7 +68,7 @@ solution-spec 𝓤 H 𝓜 𝓖 𝓡 =
     guards ! (opd ! refl)
     (λ small G out _.
     reborrows ! (O .room .0) refl refl refl refl refl refl refl refl $
-    calls-both 𝓣 S ys ! O os then solve-few′ solves a are same same-o (tree, leb-true n few (both _ _ (sym c-said ∙ small) .1)) (λ _ _. opd ! refl & opd ! refl & opd ! refl & no-more !) (λ r zs r-is r-ty same′ said. lands-in ! refl (r-ty .0) $ returns ! Q out refl refl $
+    calls-both 𝓣 S ys ! O os then solve-few′ solves a are same same-o (tree, leb-true n few (both (leb worthATable n) (leb n few) (sym c-said ∙ small) .1)) (λ _ _. opd ! refl & opd ! refl & opd ! refl & no-more !) (λ r zs r-is r-ty same′ said. lands-in ! refl (r-ty .0) $ returns ! Q out refl refl $
     return r zs r-is same′ said))
     (λ _.
     calls-shr 𝓣 S ys ! then solution-len′ measures a are same tree (λ _ _. opd ! refl & opd ! refl & no-more !) (λ needed needed-is needed-ty needed-said. lands-in ! refl (needed-ty .0) $
