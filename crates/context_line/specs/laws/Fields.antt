@@ -8,7 +8,7 @@ use Prim.Native.Nat.{ℕ, zero, suc, _+_, _≤_, _<_}
 use native.Mathlib.Nat.{not-suc-le-zero, le-of-suc-le-suc}
 use native.Mathlib.Omega.{arith}
 use borrow.Author.Tests.{le-leb, lt-leb, leb-true}
-use lib.Dec.{leb}
+use lib.Dec.{leb, lit<}
 use lib.ListN.{length, drop, getD, replicate, drop-of-length-le, length-replicate}
 use Rattle.laws.specs.laws.Lists.{drop-at}
 use Rattle.laws.specs.laws.Tests.{true-false, both, either}
@@ -59,18 +59,22 @@ pub word-most : {k : ℕ} → k < fields → getD wordMosts k 0 ≡ wordMost
 word-most {k} h = get-same fields wordMost k h
 
 -- what does not fit the greater does not fit the less
-below : (great less values : List ℕ) → length great ≤ length less → fitting great less ≡ true → fitting great values ≡ false → fitting less values ≡ false
+below : (great less values : List ℕ) → length great ≤ length less → fitting great less ≡ true
+    → fitting great values ≡ false → fitting less values ≡ false
 unfolding fitting
 below [] less values h g e = absurd (true-false e)
 below (m ∷ great) [] values h g e = absurd (not-suc-le-zero h)
 below (m ∷ great) (k ∷ less) [] h g e = absurd (true-false e)
-below (m ∷ great) (k ∷ less) (n ∷ values) h g e = by (either (leb n k)) (below great less values (le-of-suc-le-suc h) (both (leb k m) (fitting great less) g .1))
+below (m ∷ great) (k ∷ less) (n ∷ values) h g e =
+    let f = both (leb k m) (fitting great less) g in
+    by (f .0) (either (leb n k)) (below great less values (le-of-suc-le-suc h) (f .1))
   where
-    by : (leb n k ≡ true) ⊎ (leb n k ≡ false) → (fitting great values ≡ false → fitting less values ≡ false) → leb n k && fitting less values ≡ false
-    by (inl t) later =
-        let l : leb n m ≡ true = le-leb n m (omega (arith, leb-true n k t, leb-true k m (both (leb k m) (fitting great less) g .0))) in
+    by : leb k m ≡ true → (leb n k ≡ true) ⊎ (leb n k ≡ false) → (fitting great values ≡ false → fitting less values ≡ false)
+        → leb n k && fitting less values ≡ false
+    by f (inl t) later =
+        let l : leb n m ≡ true = le-leb n m (omega (arith, leb-true n k t, leb-true k m f)) in
         rw t (later (rw l at e))
-    by (inr t) later = rw t
+    by f (inr t) later = rw t
 
 pub no-words : (values : List ℕ) → fitting wordMosts values ≡ false → fitting mosts values ≡ false
 unfolding fitting
@@ -81,5 +85,29 @@ module _ (values : List ℕ) (e : length values ≡ fields) where
   pub word-at : fitting wordMosts values ≡ true → (k : ℕ) → k < fields → (k < length values) × (getD values k 0 ≤ wordMost)
   word-at f k h = (omega (arith, e), rw (sym (word-most h)) (fits-each wordMosts values f k (rw (length-replicate fields wordMost) h) (omega (arith, e))))
 
-  pub in-order : getD values 0 0 ∷ getD values 1 0 ∷ getD values 2 0 ∷ getD values 3 0 ∷ getD values 4 0 ∷ getD values 5 0 ∷ getD values 6 0 ∷ getD values 7 0 ∷ getD values 8 0 ∷ getD values 9 0 ∷ getD values 10 0 ∷ getD values 11 0 ∷ getD values 12 0 ∷ getD values 13 0 ∷ getD values 14 0 ∷ [] ≡ values
-  in-order = sym (drop-at values 0 (omega (arith, e)) ∙ ap (λ (t : List ℕ). getD values 0 0 ∷ t) (drop-at values 1 (omega (arith, e)) ∙ ap (λ (t : List ℕ). getD values 1 0 ∷ t) (drop-at values 2 (omega (arith, e)) ∙ ap (λ (t : List ℕ). getD values 2 0 ∷ t) (drop-at values 3 (omega (arith, e)) ∙ ap (λ (t : List ℕ). getD values 3 0 ∷ t) (drop-at values 4 (omega (arith, e)) ∙ ap (λ (t : List ℕ). getD values 4 0 ∷ t) (drop-at values 5 (omega (arith, e)) ∙ ap (λ (t : List ℕ). getD values 5 0 ∷ t) (drop-at values 6 (omega (arith, e)) ∙ ap (λ (t : List ℕ). getD values 6 0 ∷ t) (drop-at values 7 (omega (arith, e)) ∙ ap (λ (t : List ℕ). getD values 7 0 ∷ t) (drop-at values 8 (omega (arith, e)) ∙ ap (λ (t : List ℕ). getD values 8 0 ∷ t) (drop-at values 9 (omega (arith, e)) ∙ ap (λ (t : List ℕ). getD values 9 0 ∷ t) (drop-at values 10 (omega (arith, e)) ∙ ap (λ (t : List ℕ). getD values 10 0 ∷ t) (drop-at values 11 (omega (arith, e)) ∙ ap (λ (t : List ℕ). getD values 11 0 ∷ t) (drop-at values 12 (omega (arith, e)) ∙ ap (λ (t : List ℕ). getD values 12 0 ∷ t) (drop-at values 13 (omega (arith, e)) ∙ ap (λ (t : List ℕ). getD values 13 0 ∷ t) (drop-at values 14 (omega (arith, e)) ∙ ap (λ (t : List ℕ). getD values 14 0 ∷ t) (drop-of-length-le values {i = fields} (omega (arith, e))))))))))))))))))
+  place : (k : ℕ) {rest : List ℕ} → k < fields → drop (k + 1) values ≡ rest → drop k values ≡ getD values k 0 ∷ rest
+  place k h f = drop-at values k (omega (arith, e)) ∙ ap (λ (t : List ℕ). getD values k 0 ∷ t) f
+
+  pub in-order :
+      getD values 0 0 ∷ getD values 1 0 ∷ getD values 2 0 ∷ getD values 3 0 ∷ getD values 4 0 ∷
+      getD values 5 0 ∷ getD values 6 0 ∷ getD values 7 0 ∷ getD values 8 0 ∷ getD values 9 0 ∷
+      getD values 10 0 ∷ getD values 11 0 ∷ getD values 12 0 ∷ getD values 13 0 ∷ getD values 14 0 ∷
+      [] ≡ values
+  in-order =
+      sym
+      (place 0 (lit< tt)
+      (place 1 (lit< tt)
+      (place 2 (lit< tt)
+      (place 3 (lit< tt)
+      (place 4 (lit< tt)
+      (place 5 (lit< tt)
+      (place 6 (lit< tt)
+      (place 7 (lit< tt)
+      (place 8 (lit< tt)
+      (place 9 (lit< tt)
+      (place 10 (lit< tt)
+      (place 11 (lit< tt)
+      (place 12 (lit< tt)
+      (place 13 (lit< tt)
+      (place 14 (lit< tt)
+      (drop-of-length-le values {i = fields} (omega (arith, e))))))))))))))))))
