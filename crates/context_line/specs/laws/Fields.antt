@@ -59,18 +59,22 @@ pub word-most : {k : ℕ} → k < fields → getD wordMosts k 0 ≡ wordMost
 word-most {k} h = get-same fields wordMost k h
 
 -- what does not fit the greater does not fit the less
-below : (great less values : List ℕ) → length great ≤ length less → fitting great less ≡ true → fitting great values ≡ false → fitting less values ≡ false
+below : (great less values : List ℕ) → length great ≤ length less → fitting great less ≡ true
+    → fitting great values ≡ false → fitting less values ≡ false
 unfolding fitting
 below [] less values h g e = absurd (true-false e)
 below (m ∷ great) [] values h g e = absurd (not-suc-le-zero h)
 below (m ∷ great) (k ∷ less) [] h g e = absurd (true-false e)
-below (m ∷ great) (k ∷ less) (n ∷ values) h g e = by (either (leb n k)) (below great less values (le-of-suc-le-suc h) (both (leb k m) (fitting great less) g .1))
+below (m ∷ great) (k ∷ less) (n ∷ values) h g e =
+    let f = both (leb k m) (fitting great less) g in
+    by (f .0) (either (leb n k)) (below great less values (le-of-suc-le-suc h) (f .1))
   where
-    by : (leb n k ≡ true) ⊎ (leb n k ≡ false) → (fitting great values ≡ false → fitting less values ≡ false) → leb n k && fitting less values ≡ false
-    by (inl t) later =
-        let l : leb n m ≡ true = le-leb n m (omega (arith, leb-true n k t, leb-true k m (both (leb k m) (fitting great less) g .0))) in
+    by : leb k m ≡ true → (leb n k ≡ true) ⊎ (leb n k ≡ false) → (fitting great values ≡ false → fitting less values ≡ false)
+        → leb n k && fitting less values ≡ false
+    by f (inl t) later =
+        let l : leb n m ≡ true = le-leb n m (omega (arith, leb-true n k t, leb-true k m f)) in
         rw t (later (rw l at e))
-    by (inr t) later = rw t
+    by f (inr t) later = rw t
 
 pub no-words : (values : List ℕ) → fitting wordMosts values ≡ false → fitting mosts values ≡ false
 unfolding fitting

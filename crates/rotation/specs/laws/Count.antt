@@ -27,7 +27,8 @@ leading-all : (words : List Word) → allFound words ≡ true → leading words 
 leading-all [] e = refl
 leading-all (w ∷ more) e = by (w .found) e (leading-all more)
   where
-    by : (f : Found) → isFound f && allFound more ≡ true → (allFound more ≡ true → leading more ≡ numbers more) → knownThen f (leading more) ≡ foundThen f (numbers more)
+    by : (f : Found) → isFound f && allFound more ≡ true → (allFound more ≡ true → leading more ≡ numbers more)
+        → knownThen f (leading more) ≡ foundThen f (numbers more)
     by (Action n) e later = ap (λ (rest : List ℕ). n ∷ rest) (later e)
     by Nothing e later = absurd (true-false (sym e))
 

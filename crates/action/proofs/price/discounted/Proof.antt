@@ -13,7 +13,8 @@ use Rattle.action.proofs.price.discounted.Statement.{statement}
 use Rattle.action.proofs.price.discounted.Tie as tie
 
 -- what each combo opens is discounted, and nothing else
-opened : (n : ℕ) (combo : Combo) → (eqb n A.StandardTouch && discountedBy A.StandardTouch combo) || (eqb n A.AdvancedTouch && discountedBy A.AdvancedTouch combo) ≡ discountedBy n combo
+opened : (n : ℕ) (combo : Combo)
+    → (eqb n A.StandardTouch && discountedBy A.StandardTouch combo) || (eqb n A.AdvancedTouch && discountedBy A.AdvancedTouch combo) ≡ discountedBy n combo
 opened n C.Nothing = rw (and-false (eqb n A.StandardTouch), and-false (eqb n A.AdvancedTouch))
 opened n C.BasicTouch = rw (and-true (eqb n A.StandardTouch), and-false (eqb n A.AdvancedTouch), or-false (eqb n A.StandardTouch))
 opened n C.StandardTouch = rw (and-false (eqb n A.StandardTouch), and-true (eqb n A.AdvancedTouch))

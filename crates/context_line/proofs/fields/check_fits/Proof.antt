@@ -1,25 +1,45 @@
 -- `context_line::fields::check_fits` meets its contract: a u32 fits the fields that are one, and the six others are tested.
 -- Assumes nothing.
-use mathlib.Core.Path.{_≡_, sym, ap, _∙_}
-use mathlib.Core.Bool.{Bool, true, false, _&&_}
-use Prim.Native.Nat.{ℕ}
+use mathlib.Core.Path.{_≡_, refl, sym, ap, _∙_}
+use mathlib.Core.Bool.{Bool, true, false}
+use Prim.Native.Nat.{ℕ, _+_, _≤_, _<_}
 use native.Mathlib.Omega.{arith}
 use mir.Syntax.{w32}
 use mir.Val.{Fits}
 use borrow.Author.Needs.{needs}
-use borrow.Author.Tests.{le-leb, lt-leb}
-use lib.Dec.{leb}
+use lib.Dec.{lit<}
+use lib.ListN.{drop, getD}
 use Rattle.refusal.specs.Judge.{checkedOf}
 use Rattle.craft_context.specs.Limits.{limitTest}
+use Rattle.context_line.specs.Shape.{fields}
 use Rattle.context_line.specs.Fields.{wordMost, mosts, fitting, fitsTest}
 use Rattle.context_line.specs.inner.Fields.{listed}
+use Rattle.context_line.specs.laws.Fields.{fits-on, fits-not, fits-end}
+use Rattle.context_line.specs.declared.fields.Fields.{Fields}
 use Rattle.context_line.proofs.fields.check_fits.Statement.{statement}
 use Rattle.context_line.proofs.fields.check_fits.Tie as tie
 
--- the fields that are a u32
-word : {n : ℕ} → Fits w32 n → leb n wordMost ≡ true
-word {n} f = le-leb n wordMost (omega (arith, f))
+-- the numbers from place k on decide as all of them do
+abbrev From : Fields → ℕ → Type 0
+From n k = fitting mosts (listed n) ≡ fitting (drop k mosts) (drop k (listed n))
 
+module _ (n : Fields) (k : ℕ) (h : k < fields) where
+  -- past one that fits
+  on : getD (listed n) k 0 ≤ getD mosts k 0 → From n k → From n (k + 1)
+  on f e = e ∙ fits-on mosts (listed n) h h f
+
+  -- what the test answers, at one that does not
+  refuses : getD mosts k 0 < getD (listed n) k 0 → From n k → checkedOf (limitTest false) ≡ checkedOf (fitsTest (listed n))
+  refuses f e = ap (λ (t : Bool). checkedOf (limitTest t)) (sym (e ∙ fits-not mosts (listed n) h h f))
+
+-- and past the last
+passes : (n : Fields) → From n fields → checkedOf (limitTest true) ≡ checkedOf (fitsTest (listed n))
+passes n e = ap (λ (t : Bool). checkedOf (limitTest t)) (sym (e ∙ fits-end mosts (listed n) {i = fields} (omega arith)))
+
+word : {m : ℕ} → Fits w32 m → m ≤ wordMost
+word f = omega (arith, f)
+
+-- the fields that are a u32
 module _ (c : tie.Start) where
   player-job-level : Fits w32 (c .args .numbers .«player_job_level»)
   player-job-level = search needs
@@ -48,54 +68,62 @@ module _ (c : tie.Start) where
   action-pool : Fits w32 (c .args .numbers .«action_pool»)
   action-pool = search needs
 
--- what is left to test, in field order
-six : (c : tie.Start) → fitting mosts (listed (c .args .numbers)) ≡ leb (c .args .numbers .«step_max») 255 && (leb (c .args .numbers .«durability_max») 127 && (leb (c .args .numbers .«is_expert») 1 && (leb (c .args .numbers .«player_is_specialist») 1 && (leb (c .args .numbers .«use_manipulation») 1 && (leb (c .args .numbers .«use_delineation») 1 && true)))))
-unfolding fitting
-six c = simp (word (player-job-level c), word (recipe-job-level c), word (base-progress-factor c), word (base-quality-factor c), word (progress-target c), word (starting-quality c), word (quality-target c), word (cp-max c), word (action-pool c))
+-- up to the first that is tested, and past each that is
+to-step : (c : tie.Start) → From (c .args .numbers) 4
+to-step c =
+    let n = c .args .numbers in
+    on n 3 (lit< tt) (word (base-quality-factor c))
+    (on n 2 (lit< tt) (word (base-progress-factor c)) (on n 1 (lit< tt) (word (recipe-job-level c)) (on n 0 (lit< tt) (word (player-job-level c)) refl)))
 
--- each of them, where its test is left
-step-max-fits : (c : tie.Else1) → leb (c .before .before .args .numbers .«step_max») 255 ≡ true
-step-max-fits c = le-leb (c .before .before .args .numbers .«step_max») 255 (omega (arith, c .if1 .left))
+past-step : (c : tie.Else1) → From (c .before .before .args .numbers) 8
+past-step c =
+    let s = c .before .before in
+    let n = s .args .numbers in
+    on n 7 (lit< tt) (word (quality-target s))
+    (on n 6 (lit< tt) (word (starting-quality s))
+    (on n 5 (lit< tt) (word (progress-target s))
+    (on n 4 (lit< tt) (omega (arith, c .if1 .left)) (to-step (c .before .before)))))
 
-durability-max-fits : (c : tie.Else2) → leb (c .before .before .before .before .args .numbers .«durability_max») 127 ≡ true
-durability-max-fits c = le-leb (c .before .before .before .before .args .numbers .«durability_max») 127 (omega (arith, c .if2 .left))
+past-durability : (c : tie.Else2) → From (c .before .before .before .before .args .numbers) 10
+past-durability c =
+    let s = c .before .before .before .before in
+    let n = s .args .numbers in
+    on n 9 (lit< tt) (word (cp-max s))
+    (on n 8 (lit< tt) (omega (arith, c .if2 .left)) (past-step (c .before .before)))
 
-is-expert-fits : (c : tie.Else3) → leb (c .before .before .before .before .before .before .args .numbers .«is_expert») 1 ≡ true
-is-expert-fits c = le-leb (c .before .before .before .before .before .before .args .numbers .«is_expert») 1 (omega (arith, c .if3 .left))
+past-expert : (c : tie.Else3) → From (c .before .before .before .before .before .before .args .numbers) 12
+past-expert c =
+    let s = c .before .before .before .before .before .before in
+    let n = s .args .numbers in
+    on n 11 (lit< tt) (word (action-pool s))
+    (on n 10 (lit< tt) (omega (arith, c .if3 .left)) (past-durability (c .before .before)))
 
-player-is-specialist-fits : (c : tie.Else4) → leb (c .before .before .before .before .before .before .before .before .args .numbers .«player_is_specialist») 1 ≡ true
-player-is-specialist-fits c = le-leb (c .before .before .before .before .before .before .before .before .args .numbers .«player_is_specialist») 1 (omega (arith, c .if4 .left))
+past-specialist : (c : tie.Else4) → From (c .before .before .before .before .before .before .before .before .args .numbers) 13
+past-specialist c =
+    let s = c .before .before .before .before .before .before .before .before in
+    let n = s .args .numbers in
+    on n 12 (lit< tt) (omega (arith, c .if4 .left)) (past-expert (c .before .before))
 
-use-manipulation-fits : (c : tie.Else5) → leb (c .before .before .before .before .before .before .before .before .before .before .args .numbers .«use_manipulation») 1 ≡ true
-use-manipulation-fits c = le-leb (c .before .before .before .before .before .before .before .before .before .before .args .numbers .«use_manipulation») 1 (omega (arith, c .if5 .left))
+past-manipulation : (c : tie.Else5) → From (c .before .before .before .before .before .before .before .before .before .before .args .numbers) 14
+past-manipulation c =
+    let s = c .before .before .before .before .before .before .before .before .before .before in
+    let n = s .args .numbers in
+    on n 13 (lit< tt) (omega (arith, c .if5 .left)) (past-specialist (c .before .before))
 
-use-delineation-fits : (c : tie.Else6) → leb (c .before .before .before .before .before .before .before .before .before .before .before .before .args .numbers .«use_delineation») 1 ≡ true
-use-delineation-fits c = le-leb (c .before .before .before .before .before .before .before .before .before .before .before .before .args .numbers .«use_delineation») 1 (omega (arith, c .if6 .left))
-
--- what the test answers, by whether the numbers fit
-answer : (t : Bool) (c : tie.Start) → fitting mosts (listed (c .args .numbers)) ≡ t → checkedOf (limitTest t) ≡ checkedOf (fitsTest (listed (c .args .numbers)))
-answer t c e = ap (λ (t : Bool). checkedOf (limitTest t)) (sym e)
-
-returns : tie.Need-returns
-returns c = answer false (c .before .before) (six (c .before .before) ∙ simp (lt-leb _ _ (c .if1 .taken)))
-
-returns-2 : tie.Need-returns-2
-returns-2 c = answer false (c .before .before .before .before) (six (c .before .before .before .before) ∙ simp (step-max-fits (c .before .before), lt-leb _ _ (c .if2 .taken)))
-
-returns-3 : tie.Need-returns-3
-returns-3 c = answer false (c .before .before .before .before .before .before) (six (c .before .before .before .before .before .before) ∙ simp (step-max-fits (c .before .before .before .before), durability-max-fits (c .before .before), lt-leb _ _ (c .if3 .taken)))
-
-returns-4 : tie.Need-returns-4
-returns-4 c = answer false (c .before .before .before .before .before .before .before .before) (six (c .before .before .before .before .before .before .before .before) ∙ simp (step-max-fits (c .before .before .before .before .before .before), durability-max-fits (c .before .before .before .before), is-expert-fits (c .before .before), lt-leb _ _ (c .if4 .taken)))
-
-returns-5 : tie.Need-returns-5
-returns-5 c = answer false (c .before .before .before .before .before .before .before .before .before .before) (six (c .before .before .before .before .before .before .before .before .before .before) ∙ simp (step-max-fits (c .before .before .before .before .before .before .before .before), durability-max-fits (c .before .before .before .before .before .before), is-expert-fits (c .before .before .before .before), player-is-specialist-fits (c .before .before), lt-leb _ _ (c .if5 .taken)))
-
-returns-6 : tie.Need-returns-6
-returns-6 c = answer false (c .before .before .before .before .before .before .before .before .before .before .before .before) (six (c .before .before .before .before .before .before .before .before .before .before .before .before) ∙ simp (step-max-fits (c .before .before .before .before .before .before .before .before .before .before), durability-max-fits (c .before .before .before .before .before .before .before .before), is-expert-fits (c .before .before .before .before .before .before), player-is-specialist-fits (c .before .before .before .before), use-manipulation-fits (c .before .before), lt-leb _ _ (c .if6 .taken)))
-
-returns-7 : tie.Need-returns-7
-returns-7 c = answer true (c .before .before .before .before .before .before .before .before .before .before .before .before) (six (c .before .before .before .before .before .before .before .before .before .before .before .before) ∙ simp (step-max-fits (c .before .before .before .before .before .before .before .before .before .before), durability-max-fits (c .before .before .before .before .before .before .before .before), is-expert-fits (c .before .before .before .before .before .before), player-is-specialist-fits (c .before .before .before .before), use-manipulation-fits (c .before .before), use-delineation-fits c))
+past-delineation : (c : tie.Else6) → From (c .before .before .before .before .before .before .before .before .before .before .before .before .args .numbers) 15
+past-delineation c =
+    let s = c .before .before .before .before .before .before .before .before .before .before .before .before in
+    let n = s .args .numbers in
+    on n 14 (lit< tt) (omega (arith, c .if6 .left)) (past-manipulation (c .before .before))
 
 pub check-fits-spec : {M : Type 1} → statement M
-check-fits-spec = tie.close (tie.spec returns returns-2 returns-3 returns-4 returns-5 returns-6 returns-7)
+check-fits-spec =
+    tie.close
+    (tie.spec
+    (λ c. refuses _ 4 (lit< tt) (omega (arith, c .if1 .taken)) (to-step (c .before .before)))
+    (λ c. refuses _ 8 (lit< tt) (omega (arith, c .if2 .taken)) (past-step (c .before .before)))
+    (λ c. refuses _ 10 (lit< tt) (omega (arith, c .if3 .taken)) (past-durability (c .before .before)))
+    (λ c. refuses _ 12 (lit< tt) (omega (arith, c .if4 .taken)) (past-expert (c .before .before)))
+    (λ c. refuses _ 13 (lit< tt) (omega (arith, c .if5 .taken)) (past-specialist (c .before .before)))
+    (λ c. refuses _ 14 (lit< tt) (omega (arith, c .if6 .taken)) (past-manipulation (c .before .before)))
+    (λ c. passes _ (past-delineation c)))

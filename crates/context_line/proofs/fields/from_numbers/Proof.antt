@@ -18,8 +18,11 @@ use Rattle.context_line.proofs.fields.from_numbers.Statement.{statement
 use Rattle.context_line.proofs.fields.from_numbers.Tie as tie
 
 -- each number is a u32's
-word : (c : tie.Else1) (k : ℕ) → k < fields → (k < length (c .before .before .before .args .values .now)) × (getD (c .before .before .before .args .values .now) k 0 ≤ wordMost)
-word c k h = word-at (c .before .before .before .args .values .now) (c .before .before .before .pre) (sym (c .before .are-words .ensures) ∙ not-false _ (c .if1 .left)) k h
+word : (c : tie.Else1) (k : ℕ) → k < fields
+    → (k < length (c .before .before .before .args .values .now)) × (getD (c .before .before .before .args .values .now) k 0 ≤ wordMost)
+word c k h =
+    let s = c .before .before .before in
+    word-at (s .args .values .now) (s .pre) (sym (c .before .are-words .ensures) ∙ not-false _ (c .if1 .left)) k h
 
 are-words-requires : tie.Need-are-words-requires
 are-words-requires c κs = search needs
@@ -78,7 +81,26 @@ from-fields-requires c κs = search needs
 returns-2 : tie.Need-returns-2
 returns-2 c =
     let s = c .before .before .before .before .before .before .before .before .before .before .before .before .before .before .before .before .before .before .before in
-    subst (λ (values : List ℕ). Says read (numberTests values) (Context (contextOf values)) (c .from-fields .result)) (rw (c .before .before .before .before .before .before .before .before .before .before .before .before .before .before .before .word .ensures, c .before .before .before .before .before .before .before .before .before .before .before .before .before .before .word2 .ensures, c .before .before .before .before .before .before .before .before .before .before .before .before .before .word3 .ensures, c .before .before .before .before .before .before .before .before .before .before .before .before .word4 .ensures, c .before .before .before .before .before .before .before .before .before .before .before .word5 .ensures, c .before .before .before .before .before .before .before .before .before .before .word6 .ensures, c .before .before .before .before .before .before .before .before .before .word7 .ensures, c .before .before .before .before .before .before .before .before .word8 .ensures, c .before .before .before .before .before .before .before .word9 .ensures, c .before .before .before .before .before .before .word10 .ensures, c .before .before .before .before .before .word11 .ensures, c .before .before .before .before .word12 .ensures, c .before .before .before .word13 .ensures, c .before .before .word14 .ensures, c .before .word15 .ensures) (in-order (s .args .values .now) (s .pre))) (c .from-fields .ensures)
+    subst (λ (values : List ℕ). Says read (numberTests values) (Context (contextOf values)) (c .from-fields .result))
+    (rw (
+      c .before .before .before .before .before .before .before .before .before .before .before .before .before .before .before .word .ensures,
+      c .before .before .before .before .before .before .before .before .before .before .before .before .before .before .word2 .ensures,
+      c .before .before .before .before .before .before .before .before .before .before .before .before .before .word3 .ensures,
+      c .before .before .before .before .before .before .before .before .before .before .before .before .word4 .ensures,
+      c .before .before .before .before .before .before .before .before .before .before .before .word5 .ensures,
+      c .before .before .before .before .before .before .before .before .before .before .word6 .ensures,
+      c .before .before .before .before .before .before .before .before .before .word7 .ensures,
+      c .before .before .before .before .before .before .before .before .word8 .ensures,
+      c .before .before .before .before .before .before .before .word9 .ensures,
+      c .before .before .before .before .before .before .word10 .ensures,
+      c .before .before .before .before .before .word11 .ensures,
+      c .before .before .before .before .word12 .ensures,
+      c .before .before .before .word13 .ensures,
+      c .before .before .word14 .ensures,
+      c .before .word15 .ensures,
+    )
+    (in-order (s .args .values .now) (s .pre)))
+    (c .from-fields .ensures)
 
 pub from-numbers-spec : {M : Type 1} → statement M
 from-numbers-spec =

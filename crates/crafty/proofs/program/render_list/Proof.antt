@@ -32,7 +32,9 @@ module _ (read : tie.After-read-words) where
       (omega (arith, actions-most (start-of read .args .words .now), start-of read .pre .2))
 
 add-t12 : tie.Need-add-t12
-add-t12 c = let read = c .before .before .before .before .before in omega (arith, stop-within _ (read .read-words .ensures .0) (c .before .read .given .1), start-of read .pre .1)
+add-t12 c =
+    let read = c .before .before .before .before .before in
+    omega (arith, stop-within _ (read .read-words .ensures .0) (c .before .read .given .1), start-of read .pre .1)
 
 slice-reshare-prefix-put-transcript : tie.Need-slice-reshare-prefix-put-transcript
 slice-reshare-prefix-put-transcript c = listed (c .before .before .before .before .before) (c .before .read2 .given .1) .within
@@ -64,7 +66,8 @@ returns-2 c =
     let s = start-of read in
     let list = listed read (told .read2 .given .1) in
     let p = put-as (ap (transcriptOf (s .args .context)) (list .same)) (put .put-transcript .ensures) in
-    (read .read-words .ensures .1, onward-room (words-pass _ (read .read-words .ensures .0) (told .read2 .given .1) (s .args .base)) refl (answered-room refl (ap Length (p .next ∙ zero-add _)) (p .same)))
+    let known = words-pass _ (read .read-words .ensures .0) (told .read2 .given .1) (s .args .base) in
+    (read .read-words .ensures .1, onward-room known refl (answered-room refl (ap Length (p .next ∙ zero-add _)) (p .same)))
 
 pub render-list-spec : {M : Type 1} → statement M
 render-list-spec =

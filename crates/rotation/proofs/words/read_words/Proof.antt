@@ -48,7 +48,10 @@ read-words-spec =
     let e = next-is _ (i .counting .within) (w .next-word .ensures) (c .before .next .given .1) in
     (counted-unknown _ (i .counting) e, reading-ends _ _ i (e .2)))
     (λ c. search needs)
-    (λ c. let r = c .before .before .before .before in omega (arith, turn c .more, turn c .within, r .loop .inv .counting .fewer, r .loop .inv .size, r .before .before .before .pre))
+    (λ c.
+    let r = c .before .before .before .before in
+    let i = r .loop .inv in
+    omega (arith, turn c .more, turn c .within, i .counting .fewer, i .size, r .before .before .before .pre))
     (λ c. let r = c .before .before .before .before in omega (arith, turn c .more, turn c .within, r .loop .inv .counting .fewer))
     (λ c. omega (arith, turn c .more, turn c .within))
     (λ c. reading-on _ _ (c .before .before .before .before .loop .inv) (turn c)))
