@@ -1,58 +1,65 @@
 -- Document 01, "The replay program": the "fifteen `CraftContext` fields in order" make a context, "flags 0 or 1, else refusal 1, as for a number too large".
 -- Assumes nothing.
-use mathlib.Core.Bool.{Bool, true, _&&_}
+use mathlib.Core.Bool.{Bool}
 use mathlib.Core.List.{List, [], _∷_}
-use Prim.Native.Nat.{ℕ, _-_, _^_}
+use Prim.Native.Nat.{ℕ, _+_, _-_, _^_}
 use lib.Dec.{leb, eqb}
 use lib.IntN.{pos}
 use lib.ListN.{getD}
 use Rattle.refusal.specs.Judge.{Test}
 use Rattle.craft_context.specs.declared.context.CraftContext.{CraftContext}
-use Rattle.craft_context.specs.Limits.{limitTest, contextTests}
+use Rattle.action.specs.Limits.{factorMost, targetMost}
+use Rattle.action_set.specs.Sets.{setTest}
+use Rattle.craft_context.specs.Limits.{durable, limitTest}
 
--- the greatest number of each type that a field has: u32, u8, i8
+-- the greatest number of each type that a field has and its limit does not narrow: u32, u8
 abbrev pub wordMost : ℕ
 wordMost = 2 ^ 32 - 1
 
 abbrev pub byteMost : ℕ
 byteMost = 255
 
-abbrev signedMost : ℕ
-signedMost = 127
-
 -- a flag is 0 or 1, and 1 sets it
-abbrev flagSet : ℕ
+abbrev pub flagSet : ℕ
 flagSet = 1
 
+-- what a field takes: the numbers of its type, and of these the ones inside its limit where it has one
+abbrev pub upTo : ℕ → ℕ → Bool
+upTo most n = leb n most
+
+abbrev pub takesDurability : ℕ → Bool
+takesDurability n = durable (pos n)
+
+abbrev pub takesSet : ℕ → Bool
+takesSet s = setTest s .passed
+
 -- field by field
-abbrev pub mosts : List ℕ
-mosts =
-    wordMost ∷
-    wordMost ∷
-    wordMost ∷
-    wordMost ∷
-    byteMost ∷
-    wordMost ∷
-    wordMost ∷
-    wordMost ∷
-    signedMost ∷
-    wordMost ∷
-    flagSet ∷
-    wordMost ∷
-    flagSet ∷
-    flagSet ∷
-    flagSet ∷
+abbrev pub takes : List (ℕ → Bool)
+takes =
+    upTo wordMost ∷
+    upTo wordMost ∷
+    upTo factorMost ∷
+    upTo factorMost ∷
+    upTo byteMost ∷
+    upTo targetMost ∷
+    upTo targetMost ∷
+    upTo targetMost ∷
+    takesDurability ∷
+    upTo targetMost ∷
+    upTo flagSet ∷
+    takesSet ∷
+    upTo flagSet ∷
+    upTo flagSet ∷
+    upTo flagSet ∷
     []
 
--- each number is at most the one in its place
-unfoldable pub fitting : List ℕ → List ℕ → Bool
-fitting [] values = true
-fitting (most ∷ more) [] = true
-fitting (most ∷ more) (n ∷ values) = leb n most && fitting more values
+-- refusal 1 of the numbers from place k on, one test to a field in their order
+unfoldable pub testsFrom : ℕ → List (ℕ → Bool) → List ℕ → List Test
+testsFrom k [] values = []
+testsFrom k (field ∷ more) values = limitTest (field (getD values k 0)) ∷ testsFrom (k + 1) more values
 
--- refusal 1
-abbrev pub fitsTest : List ℕ → Test
-fitsTest values = limitTest (fitting mosts values)
+abbrev pub numberTests : List ℕ → List Test
+numberTests values = testsFrom 0 takes values
 
 unfoldable pub contextOf : List ℕ → CraftContext
 contextOf values =
@@ -73,7 +80,3 @@ contextOf values =
       «use_manipulation» = eqb (getD values 13 0) flagSet;
       «use_delineation» = eqb (getD values 14 0) flagSet;
     }
-
--- and refusal 1 for a field outside its limit
-abbrev pub numberTests : List ℕ → List Test
-numberTests values = fitsTest values ∷ contextTests (contextOf values)

@@ -1,12 +1,11 @@
 // A context from fifteen numbers, one for each field in their order.
 ghost use mathlib.Core.Path.{_≡_};
-ghost use Prim.Native.Nat.{_≤_, _<_};
+ghost use Prim.Native.Nat.{_<_};
 ghost use lib.ListN.{length, getD};
-ghost use Rattle.refusal.specs.Judge.{checkedOf, Says};
+ghost use Rattle.refusal.specs.Judge.{checksOf, Says};
 ghost use Rattle.context_line.specs.Shape.{fields};
-ghost use Rattle.context_line.specs.Fields.{wordMost, fitting, fitsTest, contextOf, numberTests};
-ghost use Rattle.context_line.specs.inner.Fields.{listed, wordMosts};
-ghost use Rattle.context_line.specs.inner.Line.{Fitting};
+ghost use Rattle.context_line.specs.Fields.{takesDurability, contextOf, numberTests};
+ghost use Rattle.context_line.specs.inner.Fields.{listed, aimTests, meansTests, Fitting, wordOf};
 ghost use Rattle.context_line.specs.Read.{read as Reads·read};
 use action_set::ActionSet;
 use craft_context::CraftContext;
@@ -40,28 +39,64 @@ pub struct Fields {
     pub use_delineation: u32,
 }
 
-// The greatest number of each type that a field has: u32, u8, i8.
+// The greatest number of each type that a field has and its limit does not narrow: u32, u8.
 const WORD_MOST: u64 = 4294967295;
 
 const BYTE_MOST: u32 = 255;
 
-const SIGNED_MOST: u32 = 127;
-
 // A flag is 0 or 1, and 1 sets it.
 const FLAG_SET: u32 = 1;
 
-// Refusal 1: a number that its field does not take. One that is a u32 takes any of these.
-fn check_fits(numbers: Fields) -> Checked
-    ensures { λ r. ⌜ r ≡ checkedOf (fitsTest (listed numbers)) ⌝ }
+// Refusal 1 for the first field that does not take its number, of those up to the targets. A level takes any.
+fn check_aims(numbers: Fields) -> Checked
+    ensures { λ r. ⌜ r ≡ checksOf (aimTests (listed numbers)) ⌝ }
 {
     let refused = Checked::Refused(Refusal::OutsideLimits);
+    if numbers.base_progress_factor > CraftContext::FACTOR_MOST {
+        return refused;
+    }
+    if numbers.base_quality_factor > CraftContext::FACTOR_MOST {
+        return refused;
+    }
     if numbers.step_max > BYTE_MOST {
         return refused;
     }
-    if numbers.durability_max > SIGNED_MOST {
+    if numbers.progress_target > CraftContext::TARGET_MOST {
+        return refused;
+    }
+    if numbers.starting_quality > CraftContext::TARGET_MOST {
+        return refused;
+    }
+    if numbers.quality_target > CraftContext::TARGET_MOST {
+        return refused;
+    }
+    Checked::Passed
+}
+
+fn lasts(durability: u32) -> bool
+    ensures { λ r. ⌜ r ≡ takesDurability durability ⌝ }
+{
+    if durability < 1 {
+        return false;
+    }
+    durability <= CraftContext::DURABILITY_MOST
+}
+
+// And of those from durability on.
+fn check_means(numbers: Fields) -> Checked
+    ensures { λ r. ⌜ r ≡ checksOf (meansTests (listed numbers)) ⌝ }
+{
+    let refused = Checked::Refused(Refusal::OutsideLimits);
+    if !lasts(numbers.durability_max) {
+        return refused;
+    }
+    if numbers.cp_max > CraftContext::TARGET_MOST {
         return refused;
     }
     if numbers.is_expert > FLAG_SET {
+        return refused;
+    }
+    if numbers.action_pool >= ActionSet::LIMIT {
         return refused;
     }
     if numbers.player_is_specialist > FLAG_SET {
@@ -77,7 +112,7 @@ fn check_fits(numbers: Fields) -> Checked
 }
 
 fn context_of(numbers: Fields) -> CraftContext
-    requires { ⌜ Fitting (listed numbers) ⌝ }
+    requires { ⌜ Fitting numbers ⌝ }
     ensures { λ r. ⌜ r ≡ contextOf (listed numbers) ⌝ }
 {
     CraftContext {
@@ -99,51 +134,42 @@ fn context_of(numbers: Fields) -> CraftContext
     }
 }
 
-// The context of these numbers, or refusal 1 for one that is outside its field's type or its limit.
+// The context of these numbers, or refusal 1 for the first field that does not take its number.
 pub fn from_fields(numbers: Fields) -> Read
     ensures { λ r. ⌜ Says Reads·read (numberTests (listed numbers)) (Read.Context (contextOf (listed numbers))) r ⌝ }
 {
-    let fits = check_fits(numbers);
-    if let Checked::Refused(x) = fits {
+    let aims = check_aims(numbers);
+    if let Checked::Refused(x) = aims {
         return Read::Refused(x);
     }
-    let context = context_of(numbers);
-    let inside = context.check();
-    if let Checked::Refused(x) = inside {
+    let means = check_means(numbers);
+    if let Checked::Refused(x) = means {
         return Read::Refused(x);
     }
-    Read::Context(context)
+    Read::Context(context_of(numbers))
 }
 
-// Each number is one of a u32, the greatest type that a field has.
-fn are_words(values: &[u64]) -> bool
-    requires { ⌜ length (now values) ≡ fields ⌝ }
-    ensures { λ r. ⌜ r ≡ fitting wordMosts (now (values .entry)) ⌝ }
-{
-    let mut i = 0;
-    while i < FIELDS {
-        if values[i] > WORD_MOST {
-            return false;
-        }
-        i += 1;
-    }
-    true
-}
-
-// The number in one place, of a u32.
+// The number in one place. The greatest u32 stands for all that are none: no field but a level takes it.
 fn word(values: &[u64], k: usize) -> u32
-    requires { ⌜ (k < length (now values)) × (getD (now values) k 0 ≤ wordMost) ⌝ }
-    ensures { λ r. ⌜ r ≡ getD (now (values .entry)) k 0 ⌝ }
+    requires { ⌜ k < length (now values) ⌝ }
+    ensures { λ r. ⌜ r ≡ wordOf (getD (now (values .entry)) k 0) ⌝ }
 {
-    values[k] as u32
+    let n = values[k];
+    if n > WORD_MOST {
+        return WORD_MOST as u32;
+    }
+    n as u32
 }
 
-// The same of any fifteen numbers in their order.
+// The same of any fifteen numbers in their order. The levels come first.
 pub fn from_numbers(values: &[u64]) -> Read
     requires { ⌜ length (now values) ≡ fields ⌝ }
     ensures { λ r. ⌜ Says Reads·read (numberTests (now (values .entry))) (Read.Context (contextOf (now (values .entry)))) r ⌝ }
 {
-    if !are_words(values) {
+    if values[0] > WORD_MOST {
+        return Read::Refused(Refusal::OutsideLimits);
+    }
+    if values[1] > WORD_MOST {
         return Read::Refused(Refusal::OutsideLimits);
     }
     let numbers = Fields {

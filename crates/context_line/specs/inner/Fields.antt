@@ -1,10 +1,13 @@
--- For the contracts of inner functions: a host's numbers of a context in their order, and the numbers of a u32.
+-- For the contracts of inner functions: a host's numbers of a context in their order, their tests, and the numbers of a u32.
 -- Assumes nothing.
+use mathlib.Core.Bool.{cond}
 use mathlib.Core.List.{List, [], _∷_}
-use Prim.Native.Nat.{ℕ}
-use lib.ListN.{replicate}
-use Rattle.context_line.specs.Shape.{fields}
-use Rattle.context_line.specs.Fields.{wordMost}
+use Prim.Native.Nat.{ℕ, _≤_}
+use lib.Dec.{leb}
+use lib.ListN.{take, drop}
+use Rattle.refusal.specs.Judge.{Test}
+use Rattle.craft_context.specs.Limits.{durabilityMost}
+use Rattle.context_line.specs.Fields.{wordMost, byteMost, takes, testsFrom}
 use Rattle.context_line.specs.declared.fields.Fields.{Fields}
 
 abbrev pub listed : Fields → List ℕ
@@ -26,6 +29,21 @@ listed numbers =
     numbers .«use_delineation» ∷
     []
 
--- the greatest type, field by field
-abbrev pub wordMosts : List ℕ
-wordMosts = replicate fields wordMost
+-- the tests as the code parts them: of what is to be reached, up to the targets, and of what there is for it
+abbrev pub aims : ℕ
+aims = 8
+
+abbrev pub aimTests : List ℕ → List Test
+aimTests values = testsFrom 0 (take aims takes) values
+
+abbrev pub meansTests : List ℕ → List Test
+meansTests values = testsFrom aims (drop aims takes) values
+
+-- numbers that two fields of narrow types can hold: what `context_of` asks
+pub record Fitting (numbers : Fields) : Type 0 where
+  pub steps : numbers .«step_max» ≤ byteMost
+  pub durability : numbers .«durability_max» ≤ durabilityMost
+
+-- a number as a u32
+abbrev pub wordOf : ℕ → ℕ
+wordOf n = cond (leb n wordMost) n wordMost

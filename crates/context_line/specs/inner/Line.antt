@@ -1,4 +1,4 @@
--- For the contracts of inner functions: what the code reads a line into, and what it asks of digits and of fifteen numbers.
+-- For the contracts of inner functions: what the code reads a line into, and what it asks of digits.
 -- Assumes nothing.
 use mathlib.Core.Path.{_≡_}
 use mathlib.Core.Bool.{true, false, cond}
@@ -6,7 +6,6 @@ use mathlib.Core.List.{List}
 use Prim.Native.Nat.{ℕ, _≤_, _<_}
 use lib.ListN.{length, getD, replicate}
 use Rattle.context_line.specs.Shape.{digit, digitsMost, fields, lineShaped, numbersOf}
-use Rattle.context_line.specs.Fields.{mosts, fitting}
 use Rattle.context_line.specs.declared.line.Numbers.{Numbers}
 
 -- digits alone, few enough for a number: what `runs::number` asks
@@ -20,8 +19,3 @@ noNumbers = record { shaped = false; values = replicate fields 0 }
 
 abbrev pub readOf : List ℕ → Numbers
 readOf line = record { shaped = lineShaped line; values = cond (lineShaped line) (numbersOf line) (noNumbers .values) }
-
--- fifteen numbers, each of which its field takes: what `context_of` asks
-pub record Fitting (values : List ℕ) : Type 0 where
-  pub count : length values ≡ fields
-  pub fits : fitting mosts values ≡ true

@@ -1,89 +1,205 @@
--- Laws of numbers that fit a context's fields.
+-- Laws of the tests of fifteen numbers, field by field.
 -- Assumes nothing.
 use mathlib.Core.Path.{_≡_, refl, sym, ap, _∙_}
-use mathlib.Core.Bool.{true, false, _&&_}
+use mathlib.Core.Bool.{Bool, true, false}
 use mathlib.Core.Logic.{_⊎_, inl, inr}
-use mathlib.Core.List.{List, [], _∷_}
-use Prim.Native.Nat.{ℕ, zero, suc, _+_, _≤_, _<_}
-use native.Mathlib.Nat.{not-suc-le-zero, le-of-suc-le-suc}
+use mathlib.Core.List.{List, [], _∷_, map}
+use Prim.Native.Nat.{ℕ, zero, suc, _+_, _^_, _≤_, _<_}
 use native.Mathlib.Omega.{arith}
-use borrow.Author.Tests.{le-leb, lt-leb, leb-true}
+use borrow.Author.Tests.{le-leb, lt-leb, lt-ltb, le-ltb, leb-true, leb-false, ltb-true}
 use lib.Dec.{leb}
-use lib.ListN.{length, drop, getD, replicate, drop-of-length-le, length-replicate}
+use lib.ListN.{length, drop, getD, drop-of-length-le}
 use Rattle.laws.specs.laws.Lists.{drop-at}
-use Rattle.laws.specs.laws.Tests.{true-false, both, either}
-use Rattle.refusal.specs.declared.Checked.{Checked}
-use Rattle.refusal.specs.declared.Checked.the-variants.{Passed}
-use Rattle.refusal.specs.Judge.{checkedOf}
-use Rattle.refusal.specs.laws.Judge.{alone, shown}
+use Rattle.laws.specs.laws.Tests.{true-false, both, and-false, either}
+use Rattle.refusal.specs.declared.Refusal.the-variants.{OutsideLimits}
+use Rattle.refusal.specs.declared.Checked.the-variants.{Passed, Refused}
+use Rattle.refusal.specs.Judge.{judged, checksOf}
+use Rattle.refusal.specs.laws.Judge.{shown}
+use Rattle.action.specs.Known.{actions}
+use Rattle.action.specs.Limits.{factorMost, targetMost}
+use Rattle.craft_context.specs.Limits.{durabilityMost, ContextIn}
 use Rattle.context_line.specs.Shape.{fields}
-use Rattle.context_line.specs.Fields.{wordMost, mosts, fitting, fitsTest}
-use Rattle.context_line.specs.inner.Fields.{wordMosts}
-use Rattle.context_line.specs.inner.Line.{Fitting}
+use Rattle.context_line.specs.Fields.{wordMost, byteMost, flagSet, upTo, takesDurability, takesSet, takes, testsFrom, numberTests, contextOf}
+use Rattle.context_line.specs.inner.Fields.{wordOf}
 
--- a scan at place i: a number that fits, one that does not, no number left
-module _ (most values : List ℕ) {i : ℕ} (h : i < length most) (l : i < length values) where
-  pub fits-on : getD values i 0 ≤ getD most i 0 → fitting (drop i most) (drop i values) ≡ fitting (drop (i + 1) most) (drop (i + 1) values)
-  unfolding fitting
-  fits-on f = rw (drop-at most i h, drop-at values i l, le-leb (getD values i 0) (getD most i 0) f)
+-- one test after the other: a field that takes its number, one that does not, no field left
+module _ (k : ℕ) (field : ℕ → Bool) (more : List (ℕ → Bool)) (values : List ℕ) where
+  pub taken : field (getD values k 0) ≡ true → checksOf (testsFrom (k + 1) more values) ≡ checksOf (testsFrom k (field ∷ more) values)
+  unfolding judged testsFrom
+  taken t = rw t
 
-  pub fits-not : getD most i 0 < getD values i 0 → fitting (drop i most) (drop i values) ≡ false
-  unfolding fitting
-  fits-not f = rw (drop-at most i h, drop-at values i l, lt-leb (getD values i 0) (getD most i 0) f)
+  pub not-taken : field (getD values k 0) ≡ false → Refused OutsideLimits ≡ checksOf (testsFrom k (field ∷ more) values)
+  unfolding judged testsFrom
+  not-taken f = rw f
 
-pub fits-end : (most values : List ℕ) {i : ℕ} → length most ≤ i → fitting (drop i most) (drop i values) ≡ true
-unfolding fitting
-fits-end most values h = rw (drop-of-length-le most h)
+pub all-taken : (k : ℕ) (values : List ℕ) → Passed ≡ checksOf (testsFrom k [] values)
+unfolding judged testsFrom
+all-taken k values = refl
 
-fits-each : (most values : List ℕ) → fitting most values ≡ true → (k : ℕ) → k < length most → k < length values → getD values k 0 ≤ getD most k 0
-unfolding fitting
-fits-each [] values e k h l = absurd (not-suc-le-zero h)
-fits-each (m ∷ more) [] e k h l = absurd (not-suc-le-zero l)
-fits-each (m ∷ more) (n ∷ values) e zero h l = leb-true n m (both (leb n m) (fitting more values) e .0)
-fits-each (m ∷ more) (n ∷ values) e (suc k) h l = fits-each more values (both (leb n m) (fitting more values) e .1) k (le-of-suc-le-suc h) (le-of-suc-le-suc l)
+-- ---- THE law of the tests: all pass exactly where the context is inside its limits, and the fields without one take their numbers
 
-pub at-most : {values : List ℕ} → Fitting values → (k : ℕ) → k < fields → (k < length values) × (getD values k 0 ≤ getD mosts k 0)
-at-most {values} f k h = (omega (arith, f .count), fits-each mosts values (f .fits) k h (omega (arith, f .count)))
+pub record Taken (values : List ℕ) : Type 0 where
+  pub inside : ContextIn (contextOf values)
+  pub playerLevel : getD values 0 0 ≤ wordMost
+  pub recipeLevel : getD values 1 0 ≤ wordMost
+  pub steps : getD values 4 0 ≤ byteMost
+  pub expert : getD values 10 0 ≤ flagSet
+  pub specialist : getD values 12 0 ≤ flagSet
+  pub manipulation : getD values 13 0 ≤ flagSet
+  pub delineation : getD values 14 0 ≤ flagSet
 
-pub fits-shown : (values : List ℕ) {checked : Checked} → checked ≡ checkedOf (fitsTest values) → checked ≡ Passed → fitting mosts values ≡ true
-fits-shown values e p = shown (fitsTest values) [] (alone (fitsTest values) e) p .0
+pub passed-taken : (values : List ℕ) → Passed ≡ checksOf (numberTests values) → Taken values
+unfolding testsFrom contextOf
+passed-taken values p =
+    let s0 = shown _ _ p refl in
+    let s1 = shown _ _ (s0 .1) refl in
+    let s2 = shown _ _ (s1 .1) refl in
+    let s3 = shown _ _ (s2 .1) refl in
+    let s4 = shown _ _ (s3 .1) refl in
+    let s5 = shown _ _ (s4 .1) refl in
+    let s6 = shown _ _ (s5 .1) refl in
+    let s7 = shown _ _ (s6 .1) refl in
+    let s8 = shown _ _ (s7 .1) refl in
+    let s9 = shown _ _ (s8 .1) refl in
+    let s10 = shown _ _ (s9 .1) refl in
+    let s11 = shown _ _ (s10 .1) refl in
+    let s12 = shown _ _ (s11 .1) refl in
+    let s13 = shown _ _ (s12 .1) refl in
+    let s14 = shown _ _ (s13 .1) refl in
+    record {
+      inside =
+          record {
+            baseProgress = leb-true _ _ (s2 .0);
+            baseQuality = leb-true _ _ (s3 .0);
+            progressTarget = leb-true _ _ (s5 .0);
+            startingQuality = leb-true _ _ (s6 .0);
+            qualityTarget = leb-true _ _ (s7 .0);
+            durability = s8 .0;
+            cpMax = leb-true _ _ (s9 .0);
+            pool = ltb-true _ _ (s11 .0);
+          };
+      playerLevel = leb-true _ _ (s0 .0);
+      recipeLevel = leb-true _ _ (s1 .0);
+      steps = leb-true _ _ (s4 .0);
+      expert = leb-true _ _ (s10 .0);
+      specialist = leb-true _ _ (s12 .0);
+      manipulation = leb-true _ _ (s13 .0);
+      delineation = leb-true _ _ (s14 .0);
+    }
 
--- ---- numbers of a u32, the greatest type
+pub taken-passed : (values : List ℕ) → Taken values → Passed ≡ checksOf (numberTests values)
+unfolding judged testsFrom contextOf
+taken-passed values t =
+    simp (
+      le-leb _ _ (t .playerLevel),
+      le-leb _ _ (t .recipeLevel),
+      le-leb _ _ (t .inside .baseProgress),
+      le-leb _ _ (t .inside .baseQuality),
+      le-leb _ _ (t .steps),
+      le-leb _ _ (t .inside .progressTarget),
+      le-leb _ _ (t .inside .startingQuality),
+      le-leb _ _ (t .inside .qualityTarget),
+      t .inside .durability,
+      le-leb _ _ (t .inside .cpMax),
+      le-leb _ _ (t .expert),
+      lt-ltb _ _ (t .inside .pool),
+      le-leb _ _ (t .specialist),
+      le-leb _ _ (t .manipulation),
+      le-leb _ _ (t .delineation),
+    )
 
-get-same : (n m k : ℕ) → k < n → getD (replicate n m) k 0 ≡ m
-get-same zero m k h = absurd (not-suc-le-zero h)
-get-same (suc n) m zero h = refl
-get-same (suc n) m (suc k) h = get-same n m k (le-of-suc-le-suc h)
+pub durability-most : (values : List ℕ) → Taken values → getD values 8 0 ≤ durabilityMost
+unfolding contextOf
+durability-most values t =
+    let n = getD values 8 0 in
+    leb-true n durabilityMost (both (leb 1 n) (leb n durabilityMost) (t .inside .durability) .1)
 
-pub word-most : {k : ℕ} → k < fields → getD wordMosts k 0 ≡ wordMost
-word-most {k} h = get-same fields wordMost k h
+-- ---- numbers, and the u32 that stand for them
 
--- what does not fit the greater does not fit the less
-below : (great less values : List ℕ) → length great ≤ length less → fitting great less ≡ true
-    → fitting great values ≡ false → fitting less values ≡ false
-unfolding fitting
-below [] less values h g e = absurd (true-false e)
-below (m ∷ great) [] values h g e = absurd (not-suc-le-zero h)
-below (m ∷ great) (k ∷ less) [] h g e = absurd (true-false e)
-below (m ∷ great) (k ∷ less) (n ∷ values) h g e =
-    let f = both (leb k m) (fitting great less) g in
-    by (f .0) (either (leb n k)) (below great less values (le-of-suc-le-suc h) (f .1))
+-- a field that does not take the greatest u32, nor a greater number
+abbrev Narrow : (ℕ → Bool) → Type 0
+Narrow field = (n : ℕ) → wordMost ≤ n → field n ≡ false
+
+-- a field that takes no greater number
+abbrev Word : (ℕ → Bool) → Type 0
+Word field = (n : ℕ) → field n ≡ true → n ≤ wordMost
+
+abbrev Each : ((ℕ → Bool) → Type 0) → List (ℕ → Bool) → Type 0
+Each P [] = Unit {0}
+Each P (field ∷ more) = P field × Each P more
+
+up-to : (most : ℕ) → most < wordMost → Narrow (upTo most)
+up-to most h n l = lt-leb n most (omega arith)
+
+lasting : Narrow takesDurability
+lasting n l = rw (lt-leb n durabilityMost (omega arith)) (and-false (leb 1 n))
+
+-- all but the two levels
+others-narrow : Each Narrow (drop 2 takes)
+others-narrow =
+    let factor = up-to factorMost (omega arith) in
+    let target = up-to targetMost (omega arith) in
+    let flag = up-to flagSet (omega arith) in
+    let set : Narrow takesSet = λ s l. le-ltb s (2 ^ actions) (omega arith) in
+    (factor, (factor, (up-to byteMost (omega arith), (target, (target, (target, (lasting, (target, (flag, (set, (flag, (flag, (flag, tt)))))))))))))
+
+narrow-word : (field : ℕ → Bool) → Narrow field → (n : ℕ) → field (wordOf n) ≡ field n
+narrow-word field h n = by (either (leb n wordMost))
   where
-    by : leb k m ≡ true → (leb n k ≡ true) ⊎ (leb n k ≡ false) → (fitting great values ≡ false → fitting less values ≡ false)
-        → leb n k && fitting less values ≡ false
-    by f (inl t) later =
-        let l : leb n m ≡ true = le-leb n m (omega (arith, leb-true n k t, leb-true k m f)) in
-        rw t (later (rw l at e))
-    by f (inr t) later = rw t
+    by : (leb n wordMost ≡ true) ⊎ (leb n wordMost ≡ false) → field (wordOf n) ≡ field n
+    by (inl t) = rw t
+    by (inr f) = rw f (h wordMost (omega arith) ∙ sym (h n (omega (arith, leb-false n wordMost f))))
 
-pub no-words : (values : List ℕ) → fitting wordMosts values ≡ false → fitting mosts values ≡ false
-unfolding fitting
-no-words values e = below wordMosts mosts values (omega arith) refl e
+word-same : (n : ℕ) → n ≤ wordMost → wordOf n ≡ n
+word-same n h = rw (le-leb n wordMost h)
 
--- fifteen numbers, each in its place
-module _ (values : List ℕ) (e : length values ≡ fields) where
-  pub word-at : fitting wordMosts values ≡ true → (k : ℕ) → k < fields → (k < length values) × (getD values k 0 ≤ wordMost)
-  word-at f k h = (omega (arith, e), rw (sym (word-most h)) (fits-each wordMosts values f k (rw (length-replicate fields wordMost) h) (omega (arith, e))))
+word-at : (values : List ℕ) (k : ℕ) → getD (map wordOf values) k 0 ≡ wordOf (getD values k 0)
+word-at [] k = refl
+word-at (n ∷ values) zero = refl
+word-at (n ∷ values) (suc k) = word-at values k
+
+tests-words : (some : List (ℕ → Bool)) → Each Narrow some → (values : List ℕ) (k : ℕ) → testsFrom k some (map wordOf values) ≡ testsFrom k some values
+unfolding testsFrom
+tests-words [] h values k = refl
+tests-words (field ∷ more) h values k =
+    rw (word-at values k, narrow-word field (h .0) (getD values k 0), tests-words more (h .1) values (k + 1))
+
+-- fifteen numbers of which the levels are u32
+pub numbers-words : (values : List ℕ) → getD values 0 0 ≤ wordMost → getD values 1 0 ≤ wordMost → numberTests (map wordOf values) ≡ numberTests values
+unfolding testsFrom
+numbers-words values f g =
+    rw (word-at values 0, word-same _ f, word-at values 1, word-same _ g, tests-words (drop 2 takes) others-narrow values 2)
+
+-- and where each is taken, it is a u32
+narrow-least : (field : ℕ → Bool) → Narrow field → Word field
+narrow-least field h n t = by (either (leb n wordMost))
+  where
+    by : (leb n wordMost ≡ true) ⊎ (leb n wordMost ≡ false) → n ≤ wordMost
+    by (inl l) = leb-true n wordMost l
+    by (inr g) = absurd (true-false (sym t ∙ h n (omega (arith, leb-false n wordMost g))))
+
+each-word : (some : List (ℕ → Bool)) → Each Narrow some → Each Word some
+each-word [] h = tt
+each-word (field ∷ more) h = (narrow-least field (h .0), each-word more (h .1))
+
+rest-words : (some : List (ℕ → Bool)) → Each Word some → (values : List ℕ) (k : ℕ) → length values ≡ k + length some
+    → Passed ≡ checksOf (testsFrom k some values) → map wordOf (drop k values) ≡ drop k values
+unfolding testsFrom
+rest-words [] h values k e p = rw (drop-of-length-le values {i = k} (omega arith))
+rest-words (field ∷ more) h values k e p =
+    let s = shown _ _ p refl in
+    rw (
+      drop-at values k (omega arith),
+      word-same _ (h .0 _ (s .0)),
+      rest-words more (h .1) values (k + 1) (omega arith) (s .1),
+    )
+
+pub passed-words : (values : List ℕ) → length values ≡ fields → Passed ≡ checksOf (numberTests values) → map wordOf values ≡ values
+passed-words values e p =
+    let level : Word (upTo wordMost) = λ n t. leb-true n wordMost t in
+    rest-words takes (level, (level, each-word (drop 2 takes) others-narrow)) values 0 e p
+
+-- ---- fifteen numbers by their places
 
 -- so many numbers from place k on
 abbrev placed : List ℕ → ℕ → ℕ → List ℕ
@@ -95,6 +211,5 @@ placed-drop values k zero e = sym (drop-of-length-le values {i = k} (omega arith
 placed-drop values k (suc more) e =
     ap (λ (rest : List ℕ). getD values k 0 ∷ rest) (placed-drop values (k + 1) more (omega arith)) ∙ sym (drop-at values k (omega arith))
 
--- fifteen numbers by their places are the numbers
-pub in-order : (values : List ℕ) → length values ≡ fields → placed values 0 fields ≡ values
-in-order values e = placed-drop values 0 fields e
+pub in-order : (values : List ℕ) → length values ≡ fields → map wordOf (placed values 0 fields) ≡ map wordOf values
+in-order values e = ap (map wordOf) (placed-drop values 0 fields e)

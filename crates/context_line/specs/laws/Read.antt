@@ -2,23 +2,24 @@
 -- Assumes nothing.
 use mathlib.Core.Path.{_≡_, refl, sym, ap, subst, _∙_}
 use mathlib.Core.Bool.{Bool, true, false}
-use mathlib.Core.List.{List}
+use mathlib.Core.List.{List, map}
 use Prim.Native.Nat.{ℕ, _≤_}
 use native.Mathlib.Omega.{arith}
+use lib.ListN.{length, getD}
 use Rattle.refusal.specs.declared.Refusal.{Refusal}
 use Rattle.refusal.specs.declared.Refusal.the-variants.{MalformedLine}
 use Rattle.refusal.specs.declared.Checked.{Checked}
 use Rattle.refusal.specs.declared.Checked.the-variants.{Passed, Refused}
-use Rattle.refusal.specs.Judge.{Test, checkedOf, checksOf, Says}
+use Rattle.refusal.specs.Report.{reportOf, success}
+use Rattle.refusal.specs.Judge.{Test, judged, checkedOf, checksOf, Says}
 use Rattle.refusal.specs.laws.Judge.{judged-passed, judged-refused, shown}
 use Rattle.craft_context.specs.declared.context.CraftContext.{CraftContext}
-use Rattle.craft_context.specs.Limits.{contextTests, ContextIn}
-use Rattle.craft_context.specs.laws.Limits.{context-in}
-use Rattle.context_line.specs.Shape.{others, lineShaped, numbersOf, lineTest}
-use Rattle.context_line.specs.Fields.{byteMost, fitsTest, contextOf, numberTests}
-use Rattle.context_line.specs.inner.Line.{Fitting, readOf}
-use Rattle.context_line.specs.laws.Fields.{at-most}
-use Rattle.context_line.specs.laws.Shape.{values-length}
+use Rattle.craft_context.specs.Limits.{ContextIn}
+use Rattle.context_line.specs.Shape.{fields, lineShaped, numbersOf, lineTest}
+use Rattle.context_line.specs.Fields.{wordMost, byteMost, contextOf, numberTests}
+use Rattle.context_line.specs.inner.Fields.{wordOf}
+use Rattle.context_line.specs.inner.Line.{readOf}
+use Rattle.context_line.specs.laws.Fields.{passed-taken, numbers-words, passed-words}
 use Rattle.context_line.specs.Read.{read, lineTests}
 use Rattle.context_line.specs.declared.line.Numbers.{Numbers}
 use Rattle.context_line.specs.declared.fields.Read.{Read}
@@ -66,20 +67,33 @@ module _ {tests : List Test} {context : CraftContext} where
       by Passed e = let other = when-passed s e in let z : _≡_ {A = ℕ} 0 1 = cc in absurd (omega arith)
       by (Refused y) e = let other = when-refused s e in let same : x ≡ y = cc in ap Refused same ∙ e
 
--- ---- what tests that passed have shown
+-- ---- what the u32 that stand for fifteen numbers are read as, the numbers are
 
-pub passed-inside : (values : List ℕ) → Passed ≡ checksOf (numberTests values) → ContextIn (contextOf values)
-passed-inside values p = context-in (contextOf values) (shown (fitsTest values) (contextTests (contextOf values)) p refl .1) refl
+module _ (values : List ℕ) (c : length values ≡ fields) (f : getD values 0 0 ≤ wordMost) (g : getD values 1 0 ≤ wordMost) where
+  pub words-read : {r : Read} → Says read (numberTests (map wordOf values)) (R.Context (contextOf (map wordOf values))) r
+      → Says read (numberTests values) (R.Context (contextOf values)) r
+  words-read {r} s = by (checksOf (numberTests values)) refl
+    where
+      same-tests : numberTests (map wordOf values) ≡ numberTests values
+      same-tests = numbers-words values f g
+
+      by : (k : Checked) → k ≡ checksOf (numberTests values) → Says read (numberTests values) (R.Context (contextOf values)) r
+      by Passed e = subst (λ (v : List ℕ). Says read (numberTests v) (R.Context (contextOf v)) r) (passed-words values c e) s
+      by (Refused x) e =
+          record {
+            number = s .number ∙ ap (judged reportOf success) same-tests;
+            same = when-refused s (e ∙ ap checksOf (sym same-tests)) ∙ judged-refused R.Refused (R.Context (contextOf values)) (numberTests values) e;
+          }
+
+-- ---- what tests that passed have shown
 
 -- of a whole line: its context is inside the limits, and its step_max is a byte
 pub line-passed : (line : List ℕ) → Passed ≡ checksOf (lineTests line)
     → ContextIn (contextOf (numbersOf line)) × (contextOf (numbersOf line) .«step_max» ≤ byteMost)
 unfolding contextOf
 line-passed line p =
-    let values = numbersOf line in
-    let q = shown (lineTest line) (numberTests values) p refl .1 in
-    let f : Fitting values = record { count = values-length others line; fits = shown (fitsTest values) (contextTests (contextOf values)) q refl .0 } in
-    (passed-inside values q, at-most f 4 (omega arith) .1)
+    let s = passed-taken (numbersOf line) (shown (lineTest line) (numberTests (numbersOf line)) p refl .1) in
+    (s .inside, s .steps)
 
 -- and so is the context of an answer
 module _ {c : CraftContext} where
@@ -87,7 +101,7 @@ module _ {c : CraftContext} where
   inside values e i = subst (λ (x : CraftContext). ContextIn x) (sym e) i
 
   pub numbers-inside : (values : List ℕ) → Says read (numberTests values) (R.Context (contextOf values)) (R.Context c) → ContextIn c
-  numbers-inside values s = let e = read-context s in inside values (e .0) (passed-inside values (e .1))
+  numbers-inside values s = let e = read-context s in inside values (e .0) (passed-taken values (e .1) .inside)
 
   pub line-inside : (line : List ℕ) → Says read (lineTests line) (R.Context (contextOf (numbersOf line))) (R.Context c) → ContextIn c
   line-inside line s = let e = read-context s in inside (numbersOf line) (e .0) (line-passed line (e .1) .0)

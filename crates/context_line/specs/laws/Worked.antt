@@ -9,7 +9,7 @@ use Rattle.refusal.specs.declared.Checked.the-variants.{Passed, Refused}
 use Rattle.refusal.specs.Judge.{judged, checksOf}
 use Rattle.text.specs.Bytes.{bytes}
 use Rattle.context_line.specs.Shape.{shaped, valuesOf, lineEnd, lineShaped, numbersOf}
-use Rattle.context_line.specs.Fields.{fitting, contextOf}
+use Rattle.context_line.specs.Fields.{testsFrom}
 use Rattle.context_line.specs.Read.{lineTests}
 
 -- the line of document 01's example, and the first fourteen numbers of it
@@ -46,13 +46,14 @@ pub malformed :
 unfolding shaped
 malformed = (refl, refl, refl, refl, refl, refl, refl, refl, refl, refl)
 
--- inside the limits; a level of 2 ^ 32, step_max 256, durability_max 128, a flag of 2; and a malformed line whose first number is too large
+-- inside the limits; a level of 2 ^ 32, step_max 256, durability_max 98 and 0, a flag of 2; and a malformed line whose first number is too large
 pub answers :
     (checksOf (lineTests example) ≡ Passed) ×
     (checksOf (lineTests (bytes "4294967296 50 100 100 8 200 0 0 40 100 0 33 0 0 0")) ≡ Refused OutsideLimits) ×
     (checksOf (lineTests (bytes "50 50 100 100 256 200 0 0 40 100 0 33 0 0 0")) ≡ Refused OutsideLimits) ×
-    (checksOf (lineTests (bytes "50 50 100 100 8 200 0 0 128 100 0 33 0 0 0")) ≡ Refused OutsideLimits) ×
+    (checksOf (lineTests (bytes "50 50 100 100 8 200 0 0 98 100 0 33 0 0 0")) ≡ Refused OutsideLimits) ×
+    (checksOf (lineTests (bytes "50 50 100 100 8 200 0 0 0 100 0 33 0 0 0")) ≡ Refused OutsideLimits) ×
     (checksOf (lineTests (fourteen ++ bytes " 2")) ≡ Refused OutsideLimits) ×
     (checksOf (lineTests (bytes "4294967296 50 100 100 8 200 0 0 40 100 0 33 0 0")) ≡ Refused MalformedLine)
-unfolding judged shaped valuesOf fitting contextOf
-answers = (refl, refl, refl, refl, refl, refl)
+unfolding judged shaped valuesOf testsFrom
+answers = (refl, refl, refl, refl, refl, refl, refl)

@@ -2,20 +2,18 @@
 -- Assumes nothing.
 use Prim.Native.Nat.{_<_}
 use native.Mathlib.Omega.{arith}
-use lib.Dec.{lit<}
 use mir.Syntax.{w8}
 use mir.Facts.{toZ-pos}
 use Rattle.context_line.specs.Fields.{contextOf}
-use Rattle.context_line.specs.laws.Fields.{at-most}
 use Rattle.context_line.proofs.fields.context_of.Statement.{statement}
 use Rattle.context_line.proofs.fields.context_of.Tie as tie
 
 -- the signed field's number
 low : (c : tie.Start) → c .args .numbers .«durability_max» < 128
-low c = omega (arith, at-most (c .pre) 8 (lit< tt) .1)
+low c = omega (arith, c .pre .durability)
 
 cast-t2 : tie.Need-cast-t2
-cast-t2 c = omega (arith, at-most (c .before .pre) 4 (lit< tt) .1)
+cast-t2 c = omega (arith, c .before .pre .steps)
 
 cast-t3 : tie.Need-cast-t3
 cast-t3 c = record { sfits = low (c .before .before) }

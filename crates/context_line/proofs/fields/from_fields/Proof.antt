@@ -1,71 +1,84 @@
--- `context_line::fields::from_fields` meets its contract: two tests, one after the other.
+-- `context_line::fields::from_fields` meets its contract: the tests in two parts, one after the other.
 -- Assumes nothing.
-use mathlib.Core.Path.{_≡_, refl, ap, _∙_}
+use mathlib.Core.Path.{_≡_, refl, sym, ap, _∙_}
 use mathlib.Core.List.{List, []}
 use borrow.Author.Needs.{needs}
+use Rattle.refusal.specs.declared.Checked.the-variants.{Passed}
 use Rattle.refusal.specs.Judge.{Test, checksOf}
-use Rattle.refusal.specs.laws.Judge.{stopped, onward, stopped-by, onward-by, answered}
-use Rattle.craft_context.specs.Limits.{contextTests}
-use Rattle.craft_context.specs.declared.context.CraftContext.{CraftContext}
-use Rattle.context_line.specs.Fields.{contextOf}
-use Rattle.context_line.specs.inner.Fields.{listed}
-use Rattle.context_line.specs.laws.Fields.{fits-shown}
+use Rattle.refusal.specs.laws.Judge.{checks-on-by, stopped-by, onward-by, answered}
+use Rattle.context_line.specs.Fields.{testsFrom, numberTests}
+use Rattle.context_line.specs.inner.Fields.{listed, aimTests, meansTests}
+use Rattle.context_line.specs.laws.Fields.{passed-taken, durability-most}
 use Rattle.context_line.specs.declared.fields.Read.the-variants.{Context}
 use Rattle.context_line.proofs.fields.from_fields.Statement.{statement}
 use Rattle.context_line.proofs.fields.from_fields.Tie as tie
 
--- the context that is tested is the definition's
-abbrev later : tie.After-check → List Test
-later c = contextTests (contextOf (listed (c .before .before .before .before .before .args .numbers)))
+-- the two parts of the tests
+abbrev aims : tie.After-check-aims → List Test
+aims k = aimTests (listed (k .before .args .numbers))
 
-tested : (c : tie.After-check) → c .check .result ≡ checksOf (later c)
-tested c = c .check .ensures .same ∙ ap (λ (x : CraftContext). checksOf (contextTests x)) (c .before .context-of .ensures)
+abbrev means : tie.After-check-aims → List Test
+means k = meansTests (listed (k .before .args .numbers))
 
-check-fits-requires : tie.Need-check-fits-requires
-check-fits-requires c κs = search needs
+-- neither refused
+passed : (c : tie.After-enum-told2) → Passed ≡ checksOf (numberTests (listed (c .before .before .before .before .before .before .args .numbers)))
+unfolding testsFrom
+passed c =
+    let l = c .before .before in
+    let k = l .before .before .before in
+    checks-on-by (aims k) (means k) (k .check-aims .ensures) (l .before .enum-told .given .1) (sym (c .enum-told2 .given .1) ∙ l .check-means .ensures)
 
-enum-known-fits : tie.Need-enum-known-fits
-enum-known-fits c = search needs
+check-aims-requires : tie.Need-check-aims-requires
+check-aims-requires c κs = search needs
+
+enum-known-aims : tie.Need-enum-known-aims
+enum-known-aims c = search needs
 
 returns : tie.Need-returns
-returns c = stopped (c .before .before .before .check-fits .ensures) (c .before .fits2 .given .1)
+unfolding testsFrom
+returns c = let k = c .before .before .before in stopped-by (aims k) (means k) (k .check-aims .ensures) (c .before .aims .given .1)
 
 enum-told : tie.Need-enum-told
 enum-told c = search needs
 
-context-of-requires : tie.Need-context-of-requires
-context-of-requires c κs = record { count = refl; fits = fits-shown _ (c .before .before .check-fits .ensures) (c .enum-told .given .1) }
+check-means-requires : tie.Need-check-means-requires
+check-means-requires c κs = search needs
 
-check-requires : tie.Need-check-requires
-check-requires c κs = search needs
-
-enum-known-inside : tie.Need-enum-known-inside
-enum-known-inside c = search needs
+enum-known-means : tie.Need-enum-known-means
+enum-known-means c = search needs
 
 returns-2 : tie.Need-returns-2
+unfolding testsFrom
 returns-2 c =
-    let k = c .before .before .before in
-    onward (k .before .before .before .before .check-fits .ensures) (k .before .before .enum-told .given .1) (stopped-by (later k) [] (tested k) (c .before .inside .given .1))
+    let l = c .before .before .before in
+    let k = l .before .before .before in
+    onward-by (aims k) (means k) (k .check-aims .ensures) (l .before .enum-told .given .1) (stopped-by (means k) [] (l .check-means .ensures) (c .before .means .given .1))
 
 enum-told-2 : tie.Need-enum-told-2
 enum-told-2 c = search needs
 
+context-of-requires : tie.Need-context-of-requires
+context-of-requires c κs =
+    let t = passed-taken _ (passed c) in
+    record { steps = t .steps; durability = durability-most _ t }
+
 returns-3 : tie.Need-returns-3
+unfolding testsFrom
 returns-3 c =
-    let k = c .before .before in
-    onward (k .before .before .before .before .check-fits .ensures) (k .before .before .enum-told .given .1) (onward-by (later k) [] (tested k) (c .enum-told2 .given .1) (answered refl (ap Context (k .before .context-of .ensures))))
+    onward-by (numberTests (listed (c .before .before .before .before .before .before .before .args .numbers))) [] (passed (c .before)) refl
+    (answered refl (ap Context (c .context-of .ensures)))
 
 pub from-fields-spec : {M : Type 1} → statement M
 from-fields-spec =
     tie.close
     (tie.spec
-    check-fits-requires
-    enum-known-fits
+    check-aims-requires
+    enum-known-aims
     returns
     enum-told
-    context-of-requires
-    check-requires
-    enum-known-inside
+    check-means-requires
+    enum-known-means
     returns-2
     enum-told-2
+    context-of-requires
     returns-3)

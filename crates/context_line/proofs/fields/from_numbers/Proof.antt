@@ -1,87 +1,35 @@
--- `context_line::fields::from_numbers` meets its contract: numbers of a u32 are a host's, and any other fits no field.
+-- `context_line::fields::from_numbers` meets its contract: the levels are tested here, and for the others stand numbers of a u32.
 -- Assumes nothing.
-use mathlib.Core.Path.{_≡_, sym, subst, _∙_}
+use mathlib.Core.Path.{_≡_, subst}
 use mathlib.Core.List.{List}
-use Prim.Native.Nat.{ℕ, _≤_, _<_}
+use Prim.Native.Nat.{ℕ}
 use borrow.Author.Needs.{needs}
-use borrow.Author.Tests.{not-true, not-false}
-use lib.Dec.{lit<}
-use lib.ListN.{length, getD}
+use borrow.Author.Tests.{le-leb, lt-leb}
 use Rattle.refusal.specs.Judge.{Says}
-use Rattle.refusal.specs.laws.Judge.{fails}
-use Rattle.context_line.specs.Shape.{fields}
-use Rattle.context_line.specs.Fields.{wordMost, contextOf, numberTests}
-use Rattle.context_line.specs.laws.Fields.{no-words, word-at, in-order}
+use Rattle.refusal.specs.laws.Judge.{fails, holds}
+use Rattle.context_line.specs.Fields.{testsFrom, contextOf, numberTests}
+use Rattle.context_line.specs.laws.Fields.{in-order}
 use Rattle.context_line.specs.Read.{read}
+use Rattle.context_line.specs.laws.Read.{words-read}
 use Rattle.context_line.specs.declared.fields.Read.the-variants.{Context}
 use Rattle.context_line.proofs.fields.from_numbers.Statement.{statement}
 use Rattle.context_line.proofs.fields.from_numbers.Tie as tie
 
--- each number is a u32's
-word : (c : tie.Else1) (k : ℕ) → k < fields
-    → (k < length (c .before .before .before .args .values .now)) × (getD (c .before .before .before .args .values .now) k 0 ≤ wordMost)
-word c k h =
-    let s = c .before .before .before in
-    word-at (s .args .values .now) (s .pre) (sym (c .before .are-words .ensures) ∙ not-false _ (c .if1 .left)) k h
-
-are-words-requires : tie.Need-are-words-requires
-are-words-requires c κs = search needs
-
 returns : tie.Need-returns
-returns c = fails (no-words _ (sym (c .before .are-words .ensures) ∙ not-true _ (c .if1 .taken)))
-
-word-requires : tie.Need-word-requires
-word-requires c κs = word (c) 0 (lit< tt)
-
-word-requires-2 : tie.Need-word-requires-2
-word-requires-2 c κs = word (c .before) 1 (lit< tt)
-
-word-requires-3 : tie.Need-word-requires-3
-word-requires-3 c κs = word (c .before .before) 2 (lit< tt)
-
-word-requires-4 : tie.Need-word-requires-4
-word-requires-4 c κs = word (c .before .before .before) 3 (lit< tt)
-
-word-requires-5 : tie.Need-word-requires-5
-word-requires-5 c κs = word (c .before .before .before .before) 4 (lit< tt)
-
-word-requires-6 : tie.Need-word-requires-6
-word-requires-6 c κs = word (c .before .before .before .before .before) 5 (lit< tt)
-
-word-requires-7 : tie.Need-word-requires-7
-word-requires-7 c κs = word (c .before .before .before .before .before .before) 6 (lit< tt)
-
-word-requires-8 : tie.Need-word-requires-8
-word-requires-8 c κs = word (c .before .before .before .before .before .before .before) 7 (lit< tt)
-
-word-requires-9 : tie.Need-word-requires-9
-word-requires-9 c κs = word (c .before .before .before .before .before .before .before .before) 8 (lit< tt)
-
-word-requires-10 : tie.Need-word-requires-10
-word-requires-10 c κs = word (c .before .before .before .before .before .before .before .before .before) 9 (lit< tt)
-
-word-requires-11 : tie.Need-word-requires-11
-word-requires-11 c κs = word (c .before .before .before .before .before .before .before .before .before .before) 10 (lit< tt)
-
-word-requires-12 : tie.Need-word-requires-12
-word-requires-12 c κs = word (c .before .before .before .before .before .before .before .before .before .before .before) 11 (lit< tt)
-
-word-requires-13 : tie.Need-word-requires-13
-word-requires-13 c κs = word (c .before .before .before .before .before .before .before .before .before .before .before .before) 12 (lit< tt)
-
-word-requires-14 : tie.Need-word-requires-14
-word-requires-14 c κs = word (c .before .before .before .before .before .before .before .before .before .before .before .before .before) 13 (lit< tt)
-
-word-requires-15 : tie.Need-word-requires-15
-word-requires-15 c κs = word (c .before .before .before .before .before .before .before .before .before .before .before .before .before .before) 14 (lit< tt)
-
-from-fields-requires : tie.Need-from-fields-requires
-from-fields-requires c κs = search needs
+unfolding testsFrom
+returns c = fails (lt-leb _ _ (c .if1 .taken))
 
 returns-2 : tie.Need-returns-2
-returns-2 c =
-    let s = c .before .before .before .before .before .before .before .before .before .before .before .before .before .before .before .before .before .before .before in
-    subst (λ (values : List ℕ). Says read (numberTests values) (Context (contextOf values)) (c .from-fields .result))
+unfolding testsFrom
+returns-2 c = holds (le-leb _ _ (c .before .before .if1 .left)) (fails (lt-leb _ _ (c .if2 .taken)))
+
+returns-3 : tie.Need-returns-3
+returns-3 c =
+    let e = c .before .before .before .before .before .before .before .before .before .before .before .before .before .before .before .before in
+    let d = e .before .before in
+    let s = d .before .before .before in
+    words-read (s .args .values .now) (s .pre) (d .if1 .left) (e .if2 .left)
+    (subst (λ (values : List ℕ). Says read (numberTests values) (Context (contextOf values)) (c .from-fields .result))
     (rw (
       c .before .before .before .before .before .before .before .before .before .before .before .before .before .before .before .word .ensures,
       c .before .before .before .before .before .before .before .before .before .before .before .before .before .before .word2 .ensures,
@@ -100,28 +48,30 @@ returns-2 c =
       c .before .word15 .ensures,
     )
     (in-order (s .args .values .now) (s .pre)))
-    (c .from-fields .ensures)
+    (c .from-fields .ensures))
 
 pub from-numbers-spec : {M : Type 1} → statement M
 from-numbers-spec =
     tie.close
     (tie.spec
-    are-words-requires
+    (λ c. search needs)
     returns
-    word-requires
-    word-requires-2
-    word-requires-3
-    word-requires-4
-    word-requires-5
-    word-requires-6
-    word-requires-7
-    word-requires-8
-    word-requires-9
-    word-requires-10
-    word-requires-11
-    word-requires-12
-    word-requires-13
-    word-requires-14
-    word-requires-15
-    from-fields-requires
-    returns-2)
+    (λ c. search needs)
+    returns-2
+    (λ c κs. search needs)
+    (λ c κs. search needs)
+    (λ c κs. search needs)
+    (λ c κs. search needs)
+    (λ c κs. search needs)
+    (λ c κs. search needs)
+    (λ c κs. search needs)
+    (λ c κs. search needs)
+    (λ c κs. search needs)
+    (λ c κs. search needs)
+    (λ c κs. search needs)
+    (λ c κs. search needs)
+    (λ c κs. search needs)
+    (λ c κs. search needs)
+    (λ c κs. search needs)
+    (λ c κs. search needs)
+    returns-3)
