@@ -16,7 +16,7 @@ pub fn measure(case: &Case, mode: Mode, rounds: usize) -> Figure {
         lent::replay(our_context, mode, our_list, &mut room).expect("inside the limits");
         let (state, result) = replay(context, list.clone(), mode);
         assert_eq!(room[..3], told(result, list.len()), "the results differ: {}", case.name());
-        assert_eq!(sum(&room), sum_of_state(&state), "the states differ: {}", case.name());
+        assert_eq!(room[3..9], state_numbers(&state), "the states differ: {}", case.name());
     }
     compare(
         case.name(),
@@ -24,13 +24,13 @@ pub fn measure(case: &Case, mode: Mode, rounds: usize) -> Figure {
         |calls| {
             timed(our_given.iter().cycle().take(calls).collect(), |(context, list)| {
                 lent::replay(context, mode, list, &mut room).expect("inside the limits");
-                sum(&room)
+                sum(&room[3..9])
             })
         },
         |calls| {
             let ready = given.iter().map(|(context, list)| (context, list.clone()));
             timed(ready.cycle().take(calls).collect(), |(context, list)| {
-                sum_of_state(&replay(context, list, mode).0)
+                sum(&state_numbers(&replay(context, list, mode).0))
             })
         },
     )
@@ -70,18 +70,19 @@ fn told(result: Option<CraftResult>, executed: usize) -> [u32; 3] {
     [number, bits, executed as u32]
 }
 
-/// Moves, step, progress, quality and points: what two different states hardly share.
-fn sum(room: &[u32; lent::NUMBERS]) -> u64 {
-    (3..7).chain([8]).map(|place| u64::from(room[place])).sum()
-}
-
-fn sum_of_state(state: &CraftState) -> u64 {
-    let numbers = [
+/// The next six: moves, step, progress, quality, durability and points.
+fn state_numbers(state: &CraftState) -> [u32; 6] {
+    [
         state.available_moves.bits(),
         u32::from(state.step),
         state.progress,
         state.quality,
+        state.durability as u32,
         state.cp,
-    ];
-    numbers.into_iter().map(u64::from).sum()
+    ]
+}
+
+/// Of these six: what two different states hardly share.
+fn sum(numbers: &[u32]) -> u64 {
+    numbers.iter().copied().map(u64::from).sum()
 }

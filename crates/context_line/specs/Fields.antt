@@ -54,7 +54,7 @@ takes =
     []
 
 -- refusal 1 of the numbers from place k on, one test to a field in their order
-unfoldable pub testsFrom : ℕ → List (ℕ → Bool) → List ℕ → List Test
+abbrev pub testsFrom : ℕ → List (ℕ → Bool) → List ℕ → List Test
 testsFrom k [] values = []
 testsFrom k (field ∷ more) values = limitTest (field (getD values k 0)) ∷ testsFrom (k + 1) more values
 

@@ -23,8 +23,8 @@ use transcript::TRANSCRIPT_MOST;
 // The word, ten digits at most, and a newline.
 const REFUSED_MOST: usize = 19;
 
-// In bytes, of words with a room of their own: one for all that an input can hold takes longer to clear than a short list to replay.
-const FEW: usize = 1024;
+// Words of at most so many bytes are read into a room of this size: one for all that an input can hold takes longer to clear than they to replay.
+const SHORT: usize = 1024;
 
 // A list of words, before which `base` bytes of the input stand, read into one room, and its replay in a context rendered into another.
 fn render_list(
@@ -51,8 +51,8 @@ fn render_words(context: CraftContext, words: &[u8], base: usize, room: &mut [u8
     requires { ⌜ ContextIn context × (base + length (now words) ≤ sizeMost) × (transcriptMost ≤ length (now room)) ⌝ }
     ensures { λ r. ⌜ RendersWords context base (now (words .entry)) (now (room .entry)) r (now (room .exit)) ⌝ }
 {
-    if words.len() <= FEW {
-        let mut list = [0u8; FEW];
+    if words.len() <= SHORT {
+        let mut list = [0u8; SHORT];
         return render_list(context, words, base, &mut list, room);
     }
     let mut list = [0u8; SIZE_MOST];

@@ -1,5 +1,4 @@
 // The replay of a list of numbers.
-ghost use mathlib.Core.Path.{_≡_};
 ghost use mathlib.Core.List.{[], _∷_};
 ghost use Rattle.craft_context.specs.Limits.{ContextIn};
 ghost use Rattle.context_line.specs.inner.Fields.{listed};

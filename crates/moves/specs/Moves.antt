@@ -5,7 +5,6 @@ use Prim.Native.Nat.{ℕ}
 use lib.Dec.{eqb, leb}
 use lib.IntN.{pos}
 use lib.Signed.{leZ}
-use Rattle.laws.specs.Bits.{has}
 use Rattle.action.specs.Actions as A
 use Rattle.action.specs.Bounds.{Rows}
 use Rattle.action.specs.Table.{attributesOf}

@@ -152,7 +152,7 @@ pub fn strict_moves(context: CraftContext, state: CraftState, set: u32) -> u32
     let worn = off > IMMACULATE_MEND_ABOVE;
     let unmended = state.buffs.manipulation == 0;
     let calm = (state.buffs.veneration <= 1) & (state.buffs.innovation <= 1);
-    let third = context.quality_target / QUICK_PART;
+    let part = context.quality_target / QUICK_PART;
     let set = unless(set, ONLY_BYREGOTS_BLESSING, state.buffs.inner_quiet > 1);
     let set = unless(set, WASTE_NOTS, no_waste_not(state));
     let set = unless(set, ONLY_OBSERVE, state.cp >= OBSERVE_AND_TOUCH);
@@ -161,7 +161,7 @@ pub fn strict_moves(context: CraftContext, state: CraftState, set: u32) -> u32
     let set = unless(set, ONLY_MANIPULATION, unmended);
     let set = unless(set, ONLY_GREAT_STRIDES, state.buffs.great_strides == 0);
     let set = unless(set, LASTING, calm);
-    unless(set, ONLY_QUICK_INNOVATION, state.quality > third)
+    unless(set, ONLY_QUICK_INNOVATION, state.quality > part)
 }
 
 // `is_outside_memory`, `is_outside_veneration` and `may_follow`, a line to each.

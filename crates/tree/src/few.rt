@@ -19,8 +19,8 @@ use refusal::Refusal;
 // As many records as the table of their best children has room for.
 const FEW: usize = 4096;
 
-// Below so many a search at each step is over before the table is cleared.
-const WORTH_A_TABLE: usize = 24;
+// Speed alone: with fewer, a search at each step takes about as long as clearing the table.
+const WORTH_A_TABLE: usize = 12;
 
 pub fn fits_table(count: usize) -> bool
     ensures { λ r. ⌜ r ≡ leb worthATable count && leb count few ⌝ }

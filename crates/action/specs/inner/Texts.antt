@@ -1,12 +1,11 @@
 -- For the contracts of inner functions: how the code keeps names and labels, each as one run, and the key by which it finds a word's only candidate.
 -- Assumes nothing.
 use mathlib.Core.Bool.{cond}
-use mathlib.Core.List.{List, [], _∷_, _++_}
+use mathlib.Core.List.{List, [], _∷_}
 use Prim.Native.Nat.{ℕ, zero, suc, _+_, _*_, _%_}
 use Prim.Native.String.{String}
 use lib.Dec.{eqb}
 use lib.ListN.{length, getD}
-use Rattle.text.specs.Bytes.{bytes}
 use Rattle.action.specs.Table.{Action, table}
 use Rattle.action.specs.Known.{actions}
 use Rattle.action.specs.Names.{nameOf}

@@ -7,7 +7,7 @@ use lib.Dec.{leb}
 use lib.ListN.{take, drop}
 use Rattle.refusal.specs.Judge.{Test}
 use Rattle.craft_context.specs.Limits.{durabilityMost}
-use Rattle.context_line.specs.Fields.{wordMost, byteMost, takes, testsFrom}
+use Rattle.context_line.specs.Fields.{wordMost, byteMost, numberTests}
 use Rattle.context_line.specs.declared.fields.Fields.{Fields}
 
 abbrev pub listed : Fields → List ℕ
@@ -30,14 +30,14 @@ listed numbers =
     []
 
 -- the tests as the code parts them: of what is to be reached, up to the targets, and of what there is for it
-abbrev pub aims : ℕ
+abbrev aims : ℕ
 aims = 8
 
 abbrev pub aimTests : List ℕ → List Test
-aimTests values = testsFrom 0 (take aims takes) values
+aimTests values = take aims (numberTests values)
 
 abbrev pub meansTests : List ℕ → List Test
-meansTests values = testsFrom aims (drop aims takes) values
+meansTests values = drop aims (numberTests values)
 
 -- numbers that two fields of narrow types can hold: what `context_of` asks
 pub record Fitting (numbers : Fields) : Type 0 where

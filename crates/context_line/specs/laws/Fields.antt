@@ -11,8 +11,7 @@ use lib.Dec.{leb}
 use lib.ListN.{length, drop, getD, drop-of-length-le}
 use Rattle.laws.specs.laws.Lists.{drop-at}
 use Rattle.laws.specs.laws.Tests.{true-false, both, and-false, either}
-use Rattle.refusal.specs.declared.Refusal.the-variants.{OutsideLimits}
-use Rattle.refusal.specs.declared.Checked.the-variants.{Passed, Refused}
+use Rattle.refusal.specs.declared.Checked.the-variants.{Passed}
 use Rattle.refusal.specs.Judge.{judged, checksOf}
 use Rattle.refusal.specs.laws.Judge.{shown}
 use Rattle.action.specs.Known.{actions}
@@ -21,20 +20,6 @@ use Rattle.craft_context.specs.Limits.{durabilityMost, ContextIn}
 use Rattle.context_line.specs.Shape.{fields}
 use Rattle.context_line.specs.Fields.{wordMost, byteMost, flagSet, upTo, takesDurability, takesSet, takes, testsFrom, numberTests, contextOf}
 use Rattle.context_line.specs.inner.Fields.{wordOf}
-
--- one test after the other: a field that takes its number, one that does not, no field left
-module _ (k : ℕ) (field : ℕ → Bool) (more : List (ℕ → Bool)) (values : List ℕ) where
-  pub taken : field (getD values k 0) ≡ true → checksOf (testsFrom (k + 1) more values) ≡ checksOf (testsFrom k (field ∷ more) values)
-  unfolding judged testsFrom
-  taken t = rw t
-
-  pub not-taken : field (getD values k 0) ≡ false → Refused OutsideLimits ≡ checksOf (testsFrom k (field ∷ more) values)
-  unfolding judged testsFrom
-  not-taken f = rw f
-
-pub all-taken : (k : ℕ) (values : List ℕ) → Passed ≡ checksOf (testsFrom k [] values)
-unfolding judged testsFrom
-all-taken k values = refl
 
 -- ---- THE law of the tests: all pass exactly where the context is inside its limits, and the fields without one take their numbers
 
@@ -49,7 +34,7 @@ pub record Taken (values : List ℕ) : Type 0 where
   pub delineation : getD values 14 0 ≤ flagSet
 
 pub passed-taken : (values : List ℕ) → Passed ≡ checksOf (numberTests values) → Taken values
-unfolding testsFrom contextOf
+unfolding contextOf
 passed-taken values p =
     let s0 = shown _ _ p refl in
     let s1 = shown _ _ (s0 .1) refl in
@@ -88,7 +73,7 @@ passed-taken values p =
     }
 
 pub taken-passed : (values : List ℕ) → Taken values → Passed ≡ checksOf (numberTests values)
-unfolding judged testsFrom contextOf
+unfolding judged contextOf
 taken-passed values t =
     simp (
       le-leb _ _ (t .playerLevel),
@@ -159,14 +144,12 @@ word-at (n ∷ values) zero = refl
 word-at (n ∷ values) (suc k) = word-at values k
 
 tests-words : (some : List (ℕ → Bool)) → Each Narrow some → (values : List ℕ) (k : ℕ) → testsFrom k some (map wordOf values) ≡ testsFrom k some values
-unfolding testsFrom
 tests-words [] h values k = refl
 tests-words (field ∷ more) h values k =
     rw (word-at values k, narrow-word field (h .0) (getD values k 0), tests-words more (h .1) values (k + 1))
 
 -- fifteen numbers of which the levels are u32
 pub numbers-words : (values : List ℕ) → getD values 0 0 ≤ wordMost → getD values 1 0 ≤ wordMost → numberTests (map wordOf values) ≡ numberTests values
-unfolding testsFrom
 numbers-words values f g =
     rw (word-at values 0, word-same _ f, word-at values 1, word-same _ g, tests-words (drop 2 takes) others-narrow values 2)
 
@@ -184,7 +167,6 @@ each-word (field ∷ more) h = (narrow-least field (h .0), each-word more (h .1)
 
 rest-words : (some : List (ℕ → Bool)) → Each Word some → (values : List ℕ) (k : ℕ) → length values ≡ k + length some
     → Passed ≡ checksOf (testsFrom k some values) → map wordOf (drop k values) ≡ drop k values
-unfolding testsFrom
 rest-words [] h values k e p = rw (drop-of-length-le values {i = k} (omega arith))
 rest-words (field ∷ more) h values k e p =
     let s = shown _ _ p refl in

@@ -1,21 +1,20 @@
 -- Laws of a line's shape and of its numbers, at the run of digits from `at` to `end`.
 -- Assumes nothing.
 use mathlib.Core.Path.{_≡_, refl, sym, ap, subst, _∙_}
-use mathlib.Core.Bool.{Bool, true, false, cond, _&&_}
+use mathlib.Core.Bool.{Bool, true, false, _&&_}
 use mathlib.Core.List.{List, [], _∷_}
 use Prim.Native.Nat.{ℕ, zero, suc, _+_, _-_, _≤_, _<_, suc-le-suc}
 use native.Mathlib.Omega.{arith}
 use borrow.Author.Tests.{le-leb, lt-leb, leb-true}
 use lib.Dec.{leb, eqb}
-use lib.ListN.{length, take, drop, getD, replicate, length-drop}
+use lib.ListN.{length, take, drop, getD, length-drop}
 use lib.Seq.{drop-drop, getD-drop}
 use Rattle.laws.specs.laws.Front.{front-le}
 use Rattle.laws.specs.laws.Tests.{true-false, both}
 use Rattle.text.specs.Reading.{valueOf}
-use Rattle.context_line.specs.Shape.{digit, digits, digitsMost, wide, shaped, valuesOf, fields, lineShaped, numbersOf}
+use Rattle.context_line.specs.Shape.{digit, digits, digitsMost, wide, shaped, valuesOf}
 use Rattle.context_line.specs.inner.Line.{Run}
 use Rattle.context_line.specs.laws.Runs.{run-front}
-use Rattle.context_line.specs.declared.line.Numbers.{Numbers}
 
 and-yes : {a : Bool} (b : Bool) → a ≡ true → a && b ≡ b
 and-yes b e = rw e

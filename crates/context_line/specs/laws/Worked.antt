@@ -9,7 +9,6 @@ use Rattle.refusal.specs.declared.Checked.the-variants.{Passed, Refused}
 use Rattle.refusal.specs.Judge.{judged, checksOf}
 use Rattle.text.specs.Bytes.{bytes}
 use Rattle.context_line.specs.Shape.{shaped, valuesOf, lineEnd, lineShaped, numbersOf}
-use Rattle.context_line.specs.Fields.{testsFrom}
 use Rattle.context_line.specs.Read.{lineTests}
 
 -- the line of document 01's example, and the first fourteen numbers of it
@@ -55,5 +54,5 @@ pub answers :
     (checksOf (lineTests (bytes "50 50 100 100 8 200 0 0 0 100 0 33 0 0 0")) ≡ Refused OutsideLimits) ×
     (checksOf (lineTests (fourteen ++ bytes " 2")) ≡ Refused OutsideLimits) ×
     (checksOf (lineTests (bytes "4294967296 50 100 100 8 200 0 0 40 100 0 33 0 0")) ≡ Refused MalformedLine)
-unfolding judged shaped valuesOf testsFrom
+unfolding judged shaped valuesOf
 answers = (refl, refl, refl, refl, refl, refl, refl)

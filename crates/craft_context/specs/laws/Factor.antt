@@ -11,8 +11,7 @@ use Rattle.laws.specs.laws.Plus.{Plus, plus-of-nat, plus-add, plus-mul, plus-di
 use Rattle.laws.specs.laws.Small.{Small, small-more, of-nat-small, of-nat-value, add-small, mul-small, div-small, truncated-small}
 use Rattle.action.specs.Limits.{factorMost}
 use Rattle.laws.specs.Floats.{float, hundredths}
-use Rattle.craft_context.specs.Limits.{statMost, divMost, modMost}
-use Rattle.craft_context.specs.Factor.{qualityPlus, baseOf, scaledOf, factorOf}
+use Rattle.craft_context.specs.Factor.{baseOf, scaledOf, factorOf}
 use Rattle.craft_context.specs.inner.Factor.{Bounded}
 
 module _ {stat divisor plus modifier : ℕ} (b : Bounded stat divisor plus modifier) where

@@ -18,7 +18,6 @@ use Rattle.craft_context.specs.declared.sheet.Recipe.{Recipe}
 use Rattle.craft_context.specs.declared.sheet.CraftOptions.{CraftOptions}
 use Rattle.craft_context.specs.Limits.{ChecksContext}
 use Rattle.craft_context.specs.Build.{built, New}
-use Rattle.context_line.specs.Fields.{testsFrom}
 use Rattle.craft_state.specs.declared.state.CraftState.{CraftState}
 use Rattle.craft_state.specs.Limits.{ChecksState}
 use Rattle.craft_state.specs.Start.{started, Start}
@@ -136,7 +135,6 @@ pub total-macro-time : (list : List ℕ) → Refuses lasting (13 ∷ 3 ∷ []) (
 total-macro-time list = says-refuses
 
 pub total-replay-text : (input out : List ℕ) → RefusesWhole written (13 ∷ 12 ∷ 1 ∷ 5 ∷ 6 ∷ []) out (ReplaysText input out)
-unfolding testsFrom
 total-replay-text input out = writes-refuses
 
 pub total-replay-output : (input out : List ℕ) → RefusesWhole written (6 ∷ []) out (Prints input out)

@@ -6,7 +6,6 @@ use Prim.Native.Nat.{ℕ}
 use lib.Ieee.{Float}
 use Rattle.refusal.specs.Demands.{Refuses, RefusesWhole}
 use Rattle.refusal.specs.laws.Demands.{says-refuses, writes-refuses}
-use Rattle.context_line.specs.Fields.{testsFrom}
 use Rattle.moves.specs.declared.mode.Mode.{Mode}
 use Rattle.tree.specs.declared.node.Node.{Node}
 use Rattle.tree.specs.laws.Grow.{changes-refuses}
@@ -18,11 +17,9 @@ use Rattle.crafty_c.specs.Trees.{solutionAnswered, TellsPlanted, TellsIn
 -- values are the fifteen numbers of the context
 pub total-crafty-replay : (values : List ℕ) (mode : Mode) (list out : List ℕ)
     → RefusesWhole answered (1 ∷ 3 ∷ 6 ∷ []) out (TellsNumbers values mode list out)
-unfolding testsFrom
 total-crafty-replay values mode list out = writes-refuses
 
 pub total-crafty-replay-text : (input out : List ℕ) → RefusesWhole answered (13 ∷ 12 ∷ 1 ∷ 5 ∷ 6 ∷ []) out (TellsReplay input out)
-unfolding testsFrom
 total-crafty-replay-text input out = writes-refuses
 
 pub total-crafty-print : (input out : List ℕ) → RefusesWhole answered (6 ∷ []) out (TellsPrinted input out)

@@ -32,7 +32,7 @@ use Rattle.step.specs.laws.Step.{execute-in, execute-pays}
 use Rattle.moves.specs.Modes.{plain, strict}
 use Rattle.moves.specs.Rules.{affords, mayImprove, eyeAlone, outsideMemory, outsideVeneration, afterObserve, mayProgress, ownRule, strictRule}
 use Rattle.moves.specs.Moves.{strictlyOf, allowedOf, ended, allowsBy, movesBy}
-use Rattle.moves.specs.inner.Legal.{legalOf, passesBy}
+use Rattle.moves.specs.inner.Legal.{passesBy}
 use Rattle.moves.specs.declared.mode.Mode.{Mode}
 
 -- ---- the set
@@ -47,7 +47,8 @@ module _ (rows : Rows) (c : CraftContext) (s : CraftState) (mode : Mode) where
   moves-on e = rw e
 
   -- THE law of membership: the state has not ended, the pool has the candidate, and it passes the test
-  pub has-moves : (n : ℕ) → n < actions → has (movesBy rows c s mode) n ≡ legalOf c s mode n (rows n)
+  pub has-moves : (n : ℕ) → n < actions
+      → has (movesBy rows c s mode) n ≡ not (ended c s) && (has (c .«action_pool» .0) n && allowsBy rows c s mode n)
   unfolding movesBy
   has-moves n h = by (ended c s)
     where

@@ -1,7 +1,7 @@
 -- Laws of what document 01 asks of every public entry, over any kind and any tests: one answer, total and refusing.
 -- Assumes nothing.
 use mathlib.Core.Path.{_≡_, refl, sym, ap, subst, _∙_}
-use mathlib.Core.Logic.{_⊎_, inl, inr}
+use mathlib.Core.Logic.{inl, inr}
 use mathlib.Core.Bool.{Bool, true, false, cond}
 use mathlib.Core.List.{List, [], _∷_}
 use Prim.Native.Nat.{ℕ}
@@ -15,7 +15,7 @@ use Rattle.refusal.specs.declared.Checked.{Checked}
 use Rattle.refusal.specs.declared.Checked.the-variants as C
 use Rattle.refusal.specs.Report.{reportOf, success}
 use Rattle.refusal.specs.Judge.{Test, judged, checksOf, Kind, Says, Writes}
-use Rattle.refusal.specs.Demands.{allPass, FirstFailing, Settled, accepts, refuses, numberOf, putFirst, numbersIn, Among, Refuses, RefusesWhole}
+use Rattle.refusal.specs.Demands.{Settled, accepts, refuses, numberOf, putFirst, numbersIn, Among, Refuses, RefusesWhole}
 use Rattle.refusal.specs.laws.Judge.{judged-passed, judged-refused}
 
 -- ---- THE theorem, total and refusing

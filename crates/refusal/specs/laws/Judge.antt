@@ -83,6 +83,20 @@ module _ (t : Test) (more : List Test) {checked : Checked} (e : checked ≡ chec
   pub checks-on : {r : Checked} → checked ≡ Passed → r ≡ checksOf more → r ≡ checksOf (t ∷ more)
   checks-on p f = checks-on-by (t ∷ []) more (alone t e) p f
 
+-- the same of a test of which the code knows how it came out, and of no test
+module _ (t : Test) (more : List Test) where
+  pub check-holds : t .passed ≡ true → checksOf more ≡ checksOf (t ∷ more)
+  unfolding judged
+  check-holds e = rw e
+
+  pub check-fails : t .passed ≡ false → Refused (t .otherwise) ≡ checksOf (t ∷ more)
+  unfolding judged
+  check-fails e = rw e
+
+pub check-none : Passed ≡ checksOf []
+unfolding judged
+check-none = refl
+
 -- what tests that passed have shown
 pub shown : (t : Test) (more : List Test) {checked : Checked} → checked ≡ checksOf (t ∷ more) → checked ≡ Passed
     → (t .passed ≡ true) × (checked ≡ checksOf more)

@@ -15,9 +15,9 @@ use Rattle.tree.specs.inner.Sound.{SoundTree}
 abbrev pub few : ℕ
 few = 4096
 
--- and as many as are worth clearing it for
+-- and as many as are worth clearing it for: no answer depends on it
 abbrev pub worthATable : ℕ
-worthATable = 24
+worthATable = 12
 
 -- the best child of record p; 0 where there is none
 abbrev pub entryAt : List ℕ → ℕ → ℕ

@@ -2,7 +2,7 @@
 -- Assumes nothing.
 use mathlib.Core.Path.{_≡_, refl, sym, ap, _∙_, subst}
 use mathlib.Core.Bool.{Bool, true, false, not, _&&_, _||_}
-use Prim.Native.Nat.{ℕ, zero, suc, _+_, _-_, _*_, _≤_, _<_, zero-le}
+use Prim.Native.Nat.{ℕ, zero, suc, _+_, _*_, _≤_, _<_, zero-le}
 use native.Mathlib.Nat.{le-trans, le-of-eq, le-of-mul-le-mul-right, eq-of-mul-eq-mul-right, mul-le-mul-right}
 use native.Mathlib.Nat.{mul-one, one-mul, zero-mul, add-mul, mul-assoc, mul-right-comm, sub-zero}
 use native.Mathlib.Omega.{arith}

@@ -7,18 +7,18 @@ use mir.Syntax.{w32}
 use mir.Val.{Fits}
 use borrow.Author.Needs.{needs}
 use borrow.Author.Tests.{le-leb, lt-leb}
-use lib.ListN.{take, drop}
+use lib.ListN.{drop}
 use Rattle.refusal.specs.Judge.{checksOf}
-use Rattle.context_line.specs.Fields.{wordMost, takes, testsFrom}
-use Rattle.context_line.specs.inner.Fields.{listed, aims, aimTests}
-use Rattle.context_line.specs.laws.Fields.{taken, not-taken, all-taken}
+use Rattle.refusal.specs.laws.Judge.{check-holds, check-fails, check-none}
+use Rattle.context_line.specs.Fields.{wordMost}
+use Rattle.context_line.specs.inner.Fields.{listed, aimTests}
 use Rattle.context_line.specs.declared.fields.Fields.{Fields}
 use Rattle.context_line.proofs.fields.check_aims.Statement.{statement}
 use Rattle.context_line.proofs.fields.check_aims.Tie as tie
 
 -- the fields before place k take their numbers: what the tests from there on answer, all of them do
 abbrev Past : Fields → ℕ → Type 0
-Past n k = checksOf (testsFrom k (drop k (take aims takes)) (listed n)) ≡ checksOf (aimTests (listed n))
+Past n k = checksOf (drop k (aimTests (listed n))) ≡ checksOf (aimTests (listed n))
 
 -- the two levels
 player : (c : tie.Start) → Fits w32 (c .args .numbers .«player_job_level»)
@@ -31,34 +31,34 @@ word : {m : ℕ} → Fits w32 m → m ≤ wordMost
 word f = omega (arith, f)
 
 past-levels : (c : tie.Start) → Past (c .args .numbers) 2
-past-levels c = taken 1 _ _ _ (le-leb _ _ (word (recipe c))) ∙ taken 0 _ _ _ (le-leb _ _ (word (player c)))
+past-levels c = check-holds _ _ (le-leb _ _ (word (recipe c))) ∙ check-holds _ _ (le-leb _ _ (word (player c)))
 
 past-progress-factor : (c : tie.Else1) → Past (c .before .before .args .numbers) 3
-past-progress-factor c = taken 2 _ _ _ (le-leb _ _ (c .if1 .left)) ∙ past-levels (c .before .before)
+past-progress-factor c = check-holds _ _ (le-leb _ _ (c .if1 .left)) ∙ past-levels (c .before .before)
 
 past-quality-factor : (c : tie.Else2) → Past (c .before .before .before .before .args .numbers) 4
-past-quality-factor c = taken 3 _ _ _ (le-leb _ _ (c .if2 .left)) ∙ past-progress-factor (c .before .before)
+past-quality-factor c = check-holds _ _ (le-leb _ _ (c .if2 .left)) ∙ past-progress-factor (c .before .before)
 
 past-steps : (c : tie.Else3) → Past (c .before .before .before .before .before .before .args .numbers) 5
-past-steps c = taken 4 _ _ _ (le-leb _ _ (c .if3 .left)) ∙ past-quality-factor (c .before .before)
+past-steps c = check-holds _ _ (le-leb _ _ (c .if3 .left)) ∙ past-quality-factor (c .before .before)
 
 past-progress-target : (c : tie.Else4) → Past (c .before .before .before .before .before .before .before .before .args .numbers) 6
-past-progress-target c = taken 5 _ _ _ (le-leb _ _ (c .if4 .left)) ∙ past-steps (c .before .before)
+past-progress-target c = check-holds _ _ (le-leb _ _ (c .if4 .left)) ∙ past-steps (c .before .before)
 
 past-starting-quality : (c : tie.Else5) → Past (c .before .before .before .before .before .before .before .before .before .before .args .numbers) 7
-past-starting-quality c = taken 6 _ _ _ (le-leb _ _ (c .if5 .left)) ∙ past-progress-target (c .before .before)
+past-starting-quality c = check-holds _ _ (le-leb _ _ (c .if5 .left)) ∙ past-progress-target (c .before .before)
 
 past-quality-target : (c : tie.Else6) → Past (c .before .before .before .before .before .before .before .before .before .before .before .before .args .numbers) 8
-past-quality-target c = taken 7 _ _ _ (le-leb _ _ (c .if6 .left)) ∙ past-starting-quality (c .before .before)
+past-quality-target c = check-holds _ _ (le-leb _ _ (c .if6 .left)) ∙ past-starting-quality (c .before .before)
 
 pub check-aims-spec : {M : Type 1} → statement M
 check-aims-spec =
     tie.close
     (tie.spec
-    (λ c. not-taken 2 _ _ _ (lt-leb _ _ (c .if1 .taken)) ∙ past-levels (c .before .before))
-    (λ c. not-taken 3 _ _ _ (lt-leb _ _ (c .if2 .taken)) ∙ past-progress-factor (c .before .before))
-    (λ c. not-taken 4 _ _ _ (lt-leb _ _ (c .if3 .taken)) ∙ past-quality-factor (c .before .before))
-    (λ c. not-taken 5 _ _ _ (lt-leb _ _ (c .if4 .taken)) ∙ past-steps (c .before .before))
-    (λ c. not-taken 6 _ _ _ (lt-leb _ _ (c .if5 .taken)) ∙ past-progress-target (c .before .before))
-    (λ c. not-taken 7 _ _ _ (lt-leb _ _ (c .if6 .taken)) ∙ past-starting-quality (c .before .before))
-    (λ c. all-taken 8 _ ∙ past-quality-target c))
+    (λ c. check-fails _ _ (lt-leb _ _ (c .if1 .taken)) ∙ past-levels (c .before .before))
+    (λ c. check-fails _ _ (lt-leb _ _ (c .if2 .taken)) ∙ past-progress-factor (c .before .before))
+    (λ c. check-fails _ _ (lt-leb _ _ (c .if3 .taken)) ∙ past-quality-factor (c .before .before))
+    (λ c. check-fails _ _ (lt-leb _ _ (c .if4 .taken)) ∙ past-steps (c .before .before))
+    (λ c. check-fails _ _ (lt-leb _ _ (c .if5 .taken)) ∙ past-progress-target (c .before .before))
+    (λ c. check-fails _ _ (lt-leb _ _ (c .if6 .taken)) ∙ past-starting-quality (c .before .before))
+    (λ c. check-none ∙ past-quality-target c))

@@ -2,11 +2,12 @@
 -- Assumes nothing.
 use mathlib.Core.Path.{_≡_, refl, sym, ap, _∙_}
 use mathlib.Core.List.{List, []}
+use Prim.Native.Nat.{ℕ}
 use borrow.Author.Needs.{needs}
 use Rattle.refusal.specs.declared.Checked.the-variants.{Passed}
 use Rattle.refusal.specs.Judge.{Test, checksOf}
 use Rattle.refusal.specs.laws.Judge.{checks-on-by, stopped-by, onward-by, answered}
-use Rattle.context_line.specs.Fields.{testsFrom, numberTests}
+use Rattle.context_line.specs.Fields.{numberTests}
 use Rattle.context_line.specs.inner.Fields.{listed, aimTests, meansTests}
 use Rattle.context_line.specs.laws.Fields.{passed-taken, durability-most}
 use Rattle.context_line.specs.declared.fields.Read.the-variants.{Context}
@@ -21,8 +22,10 @@ abbrev means : tie.After-check-aims → List Test
 means k = meansTests (listed (k .before .args .numbers))
 
 -- neither refused
-passed : (c : tie.After-enum-told2) → Passed ≡ checksOf (numberTests (listed (c .before .before .before .before .before .before .args .numbers)))
-unfolding testsFrom
+abbrev values : tie.After-enum-told2 → List ℕ
+values c = listed (c .before .before .before .before .before .before .args .numbers)
+
+passed : (c : tie.After-enum-told2) → Passed ≡ checksOf (numberTests (values c))
 passed c =
     let l = c .before .before in
     let k = l .before .before .before in
@@ -35,7 +38,6 @@ enum-known-aims : tie.Need-enum-known-aims
 enum-known-aims c = search needs
 
 returns : tie.Need-returns
-unfolding testsFrom
 returns c = let k = c .before .before .before in stopped-by (aims k) (means k) (k .check-aims .ensures) (c .before .aims .given .1)
 
 enum-told : tie.Need-enum-told
@@ -48,7 +50,6 @@ enum-known-means : tie.Need-enum-known-means
 enum-known-means c = search needs
 
 returns-2 : tie.Need-returns-2
-unfolding testsFrom
 returns-2 c =
     let l = c .before .before .before in
     let k = l .before .before .before in
@@ -59,14 +60,11 @@ enum-told-2 c = search needs
 
 context-of-requires : tie.Need-context-of-requires
 context-of-requires c κs =
-    let t = passed-taken _ (passed c) in
-    record { steps = t .steps; durability = durability-most _ t }
+    let t = passed-taken (values c) (passed c) in
+    record { steps = t .steps; durability = durability-most (values c) t }
 
 returns-3 : tie.Need-returns-3
-unfolding testsFrom
-returns-3 c =
-    onward-by (numberTests (listed (c .before .before .before .before .before .before .before .args .numbers))) [] (passed (c .before)) refl
-    (answered refl (ap Context (c .context-of .ensures)))
+returns-3 c = onward-by (numberTests (values (c .before))) [] (passed (c .before)) refl (answered refl (ap Context (c .context-of .ensures)))
 
 pub from-fields-spec : {M : Type 1} → statement M
 from-fields-spec =

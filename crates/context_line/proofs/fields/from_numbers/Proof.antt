@@ -1,13 +1,13 @@
 -- `context_line::fields::from_numbers` meets its contract: the levels are tested here, and for the others stand numbers of a u32.
 -- Assumes nothing.
-use mathlib.Core.Path.{_≡_, subst}
+use mathlib.Core.Path.{subst}
 use mathlib.Core.List.{List}
 use Prim.Native.Nat.{ℕ}
 use borrow.Author.Needs.{needs}
 use borrow.Author.Tests.{le-leb, lt-leb}
 use Rattle.refusal.specs.Judge.{Says}
 use Rattle.refusal.specs.laws.Judge.{fails, holds}
-use Rattle.context_line.specs.Fields.{testsFrom, contextOf, numberTests}
+use Rattle.context_line.specs.Fields.{contextOf, numberTests}
 use Rattle.context_line.specs.laws.Fields.{in-order}
 use Rattle.context_line.specs.Read.{read}
 use Rattle.context_line.specs.laws.Read.{words-read}
@@ -16,11 +16,9 @@ use Rattle.context_line.proofs.fields.from_numbers.Statement.{statement
 use Rattle.context_line.proofs.fields.from_numbers.Tie as tie
 
 returns : tie.Need-returns
-unfolding testsFrom
 returns c = fails (lt-leb _ _ (c .if1 .taken))
 
 returns-2 : tie.Need-returns-2
-unfolding testsFrom
 returns-2 c = holds (le-leb _ _ (c .before .before .if1 .left)) (fails (lt-leb _ _ (c .if2 .taken)))
 
 returns-3 : tie.Need-returns-3

@@ -1,6 +1,6 @@
 -- `moves::amounts::efficiency_of` meets its contract.
 -- Assumes nothing.
-use mathlib.Core.Path.{_≡_, _∙_}
+use mathlib.Core.Path.{_≡_}
 use Rattle.action.specs.Table.{attributesOf}
 use Rattle.action.specs.laws.Bounds.{rows-bounded}
 use Rattle.moves.specs.inner.Sets.{amountOf}

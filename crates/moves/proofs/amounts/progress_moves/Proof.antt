@@ -1,6 +1,5 @@
 -- `moves::amounts::progress_moves` meets its contract.
 -- Assumes nothing.
-use mathlib.Core.Path.{_≡_, _∙_}
 use borrow.Author.Needs.{needs}
 use Rattle.laws.specs.Bits.{collect}
 use Rattle.action.specs.Table.{actionOf, attributesOf}

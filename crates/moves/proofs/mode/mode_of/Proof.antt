@@ -1,6 +1,5 @@
 -- `moves::mode::mode_of` meets its contract: each constant is its mode.
 -- Assumes nothing.
-use Rattle.moves.specs.Modes.{modeOf}
 use Rattle.moves.proofs.mode.mode_of.Statement.{statement}
 use Rattle.moves.proofs.mode.mode_of.Tie as tie
 

@@ -1,6 +1,5 @@
 -- `moves::sets::is_withstood` meets its contract.
 -- Assumes nothing.
-use mathlib.Core.Path.{_∙_, ap}
 use Rattle.action.specs.laws.Bounds.{rows-bounded}
 use Rattle.moves.proofs.sets.is_withstood.Statement.{statement}
 use Rattle.moves.proofs.sets.is_withstood.Tie as tie

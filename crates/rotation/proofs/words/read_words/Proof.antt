@@ -19,7 +19,8 @@ abbrev μ-loop : tie.MeasureT-loop
 μ-loop text out₀ k₀ at₀ out k at = length text - at
 
 -- the word that a turn finds
-turn : (c : tie.After-known-told2 Inv-loop μ-loop) → Turn (now (c .before .before .before .before .before .before .before .args .text)) (c .before .before .before .before .loop .at) (c .before .next2 .given .0 .0) (c .before .next2 .given .0 .1 .0)
+turn : (c : tie.After-known-told2 Inv-loop μ-loop)
+    → Turn (now (c .before .before .before .before .before .before .before .args .text)) (c .before .before .before .before .loop .at) (c .before .next2 .given .0 .0) (c .before .next2 .given .0 .1 .0)
 turn c =
     let w = c .before .before .before in
     let i = w .before .loop .inv .counting in
