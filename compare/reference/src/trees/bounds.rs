@@ -21,7 +21,8 @@ const SHAPES: [Shape; 4] = [
 ];
 const NEAR: u64 = 8;
 /// So few that many children are equal, and below the score that is propagated.
-const MAXIMA: [f32; 3] = [0.0, 0.25, 0.5];
+const MAXIMA: [f32; 3] = [0.0, 0.25, GREATEST];
+const GREATEST: f32 = 0.5;
 const VISITS: u32 = 9;
 const SEED: u64 = 1;
 
@@ -34,7 +35,7 @@ fn counts() -> impl Iterator<Item = u64> {
     [*TABLE.start(), *TABLE.end()].into_iter().flat_map(|bound| bound - 1..=bound + 1)
 }
 
-/// The solution before and after a back-propagation that leads it to the start, which is seldom the last of equals.
+/// The solution before and after a back-propagation, which leads it through the start.
 fn cases_of(shape: Shape, count: u64) -> Vec<Case> {
     let tree = tree(shape, count);
     let call = Call::new(Function::Backpropagate, &tree, count);
@@ -46,7 +47,7 @@ fn cases_of(shape: Shape, count: u64) -> Vec<Case> {
     cases
 }
 
-/// A sound tree, and behind it a record that would be the best child of the root.
+/// A sound tree whose last record is as good as any, and behind it one that would be the best child of the root.
 fn tree(shape: Shape, count: u64) -> Vec<Record> {
     let random = &mut Random::numbered(SEED, count);
     let mut records = vec![Record::new(0, NO_ACTION)];
@@ -57,6 +58,7 @@ fn tree(shape: Shape, count: u64) -> Vec<Record> {
         let placed = Record::new(shape(random, number), known_action(random));
         Record { visits, score_sum, max_score, ..placed }
     }));
+    records[count as usize - 1].max_score = GREATEST;
     records.push(Record { max_score: 1.0, ..Record::new(0, 0) });
     records
 }
