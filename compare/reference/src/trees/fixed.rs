@@ -1,6 +1,7 @@
 //! The fixed calls: every refusal at its boundary and every two that meet, each damage of each record, each edge that is
-//! sound, and trees that are long or wide.
+//! sound, trees that are long or wide, and those around the bounds of the ways of `solution`.
 
+use super::bounds;
 use super::call::{Call, Function, FUNCTIONS};
 use super::damage::{no_counts, DAMAGES};
 use super::floats::{ABOVE_ONE, BELOW_ONE, LEAST, NANS, NO_SCORES, SCORES};
@@ -17,7 +18,7 @@ const BESIDE: u64 = 1;
 pub fn cases() -> impl Iterator<Item = Case> {
     let calls = [starts(), insertions(), lookups(), paths(), visits(), scores(), edges(), shapes()];
     let calls = calls.into_iter().flatten().map(Case::new);
-    calls.chain(damaged()).chain([equals()])
+    calls.chain(damaged()).chain([equals()]).chain(bounds::cases())
 }
 
 /// Of five records used 1 and 2 are below the root, 3 below 2, 4 below 3; two more hold what no tree may.

@@ -7,6 +7,7 @@ use super::sequence::Sequence;
 use super::sound::upward;
 use crate::random::Random;
 
+pub const LAST_OF_EQUALS: &str = "solution, the last of equals";
 const STEPS_MOST: u32 = 24;
 
 /// A call, what it must answer, and what is rare in it.
@@ -51,7 +52,7 @@ fn rare(call: &Call, answer: &Answer) -> Option<&'static str> {
     match call.function {
         Function::Backpropagate if met_zero(call) => Some("back-propagation, -0 meets +0"),
         Function::Backpropagate if rounds(call) => Some("back-propagation, a sum is rounded"),
-        Function::Solution if takes_last(call, answer) => Some("solution, the last of equals"),
+        Function::Solution if takes_last(call, answer) => Some(LAST_OF_EQUALS),
         _ => None,
     }
 }

@@ -3,6 +3,7 @@
 
 mod answer;
 mod arena;
+mod bounds;
 mod call;
 mod damage;
 mod fixed;
@@ -12,6 +13,7 @@ mod record;
 mod run;
 mod sequence;
 mod sound;
+mod ways;
 
 pub use call::{Call, Function, FUNCTIONS};
 pub use damage::{no_counts, DAMAGES};

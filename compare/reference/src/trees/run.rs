@@ -3,6 +3,7 @@
 use super::answer::Answer;
 use super::generate::Case;
 use super::record::{Record, WIDTH};
+use super::ways::Ways;
 use super::{fixed, generate};
 use crate::ask::{ask, Question};
 use crate::counts::Counts;
@@ -14,12 +15,16 @@ const HEAD: usize = 24;
 /// The fixed list and the calls of `count` random trees.
 pub fn compare(seed: u64, count: u64, host: &[&str]) -> io::Result<()> {
     let mut counts = Counts::default();
+    let mut ways = Ways::default();
     let mut records = 0;
     let asked = ask(host, fixed::cases().chain(generate::cases(seed, count)), |case| {
         count_case(&mut counts, case);
+        ways.add(case);
         records += case.answer.records.len();
     })?;
-    println!("{counts}compare: {asked} calls equal, {records} records after them, seed {seed}");
+    print!("{counts}{ways}");
+    ways.check();
+    println!("compare: {asked} calls equal, {records} records after them, seed {seed}");
     Ok(())
 }
 

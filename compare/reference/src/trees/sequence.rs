@@ -155,7 +155,7 @@ fn in_room(random: &mut Random, call: Call) -> Call {
     Call { room, ..enough }
 }
 
-fn known_action(random: &mut Random) -> u8 {
+pub fn known_action(random: &mut Random) -> u8 {
     random.between(0, u32::from(LAST_ACTION)) as u8
 }
 
