@@ -4,8 +4,8 @@ ghost use Prim.Native.Nat.{_<_};
 ghost use lib.ListN.{length, getD};
 ghost use Rattle.refusal.specs.Judge.{checksOf, Says};
 ghost use Rattle.context_line.specs.Shape.{fields};
-ghost use Rattle.context_line.specs.Fields.{takesDurability, contextOf, numberTests};
-ghost use Rattle.context_line.specs.inner.Fields.{listed, aimTests, meansTests, Fitting, wordOf};
+ghost use Rattle.context_line.specs.Fields.{contextOf, numberTests};
+ghost use Rattle.context_line.specs.inner.Fields.{listed, earlyTests, lateTests, Fitting, wordOf};
 ghost use Rattle.context_line.specs.Read.{read as Reads·read};
 use action_set::ActionSet;
 use craft_context::CraftContext;
@@ -47,9 +47,9 @@ const BYTE_MOST: u32 = 255;
 // A flag is 0 or 1, and 1 sets it.
 const FLAG_SET: u32 = 1;
 
-// Refusal 1 for the first field that does not take its number, of those up to the targets. A level takes any.
-fn check_aims(numbers: Fields) -> Checked
-    ensures { λ r. ⌜ r ≡ checksOf (aimTests (listed numbers)) ⌝ }
+// Refusal 1 for the first field that does not take its number, of those before durability. A level takes any.
+fn check_early(numbers: Fields) -> Checked
+    ensures { λ r. ⌜ r ≡ checksOf (earlyTests (listed numbers)) ⌝ }
 {
     let refused = Checked::Refused(Refusal::OutsideLimits);
     if numbers.base_progress_factor > CraftContext::FACTOR_MOST {
@@ -73,21 +73,12 @@ fn check_aims(numbers: Fields) -> Checked
     Checked::Passed
 }
 
-fn lasts(durability: u32) -> bool
-    ensures { λ r. ⌜ r ≡ takesDurability durability ⌝ }
-{
-    if durability < 1 {
-        return false;
-    }
-    durability <= CraftContext::DURABILITY_MOST
-}
-
 // And of those from durability on.
-fn check_means(numbers: Fields) -> Checked
-    ensures { λ r. ⌜ r ≡ checksOf (meansTests (listed numbers)) ⌝ }
+fn check_late(numbers: Fields) -> Checked
+    ensures { λ r. ⌜ r ≡ checksOf (lateTests (listed numbers)) ⌝ }
 {
     let refused = Checked::Refused(Refusal::OutsideLimits);
-    if !lasts(numbers.durability_max) {
+    if !craft_context::lasts(numbers.durability_max) {
         return refused;
     }
     if numbers.cp_max > CraftContext::TARGET_MOST {
@@ -134,22 +125,22 @@ fn context_of(numbers: Fields) -> CraftContext
     }
 }
 
-// The context of these numbers, or refusal 1 for the first field that does not take its number.
+// The context of these numbers, or refusal 1 for the first field that does not take its number; no answer tells which.
 pub fn from_fields(numbers: Fields) -> Read
     ensures { λ r. ⌜ Says Reads·read (numberTests (listed numbers)) (Read.Context (contextOf (listed numbers))) r ⌝ }
 {
-    let aims = check_aims(numbers);
-    if let Checked::Refused(x) = aims {
+    let early = check_early(numbers);
+    if let Checked::Refused(x) = early {
         return Read::Refused(x);
     }
-    let means = check_means(numbers);
-    if let Checked::Refused(x) = means {
+    let late = check_late(numbers);
+    if let Checked::Refused(x) = late {
         return Read::Refused(x);
     }
     Read::Context(context_of(numbers))
 }
 
-// The number in one place. The greatest u32 stands for all that are none: no field but a level takes it.
+// The number in one place. The greatest u32 stands for every greater number: no field but a level takes it.
 fn word(values: &[u64], k: usize) -> u32
     requires { ⌜ k < length (now values) ⌝ }
     ensures { λ r. ⌜ r ≡ wordOf (getD (now (values .entry)) k 0) ⌝ }

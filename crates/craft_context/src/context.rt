@@ -1,5 +1,6 @@
 // The context, and the test of any context against its limits.
 ghost use mathlib.Core.Path.{_≡_};
+ghost use lib.IntN.{pos};
 ghost use Rattle.craft_context.specs.Limits.{durable, ChecksContext};
 use action_set::ActionSet;
 use refusal::Checked;
@@ -23,18 +24,23 @@ pub struct CraftContext {
     pub use_delineation: bool,
 }
 
-// From 1 to its most.
+// A durability from 1 to its most.
+pub fn lasts(n: u32) -> bool
+    ensures { λ r. ⌜ r ≡ durable (pos n) ⌝ }
+{
+    if n < 1 {
+        return false;
+    }
+    n <= CraftContext::DURABILITY_MOST
+}
+
 fn is_durable(z: i8) -> bool
     ensures { λ r. ⌜ r ≡ durable z ⌝ }
 {
     if z < 0 {
         return false;
     }
-    let n = z as u32;
-    if n < 1 {
-        return false;
-    }
-    n <= CraftContext::DURABILITY_MOST
+    lasts(z as u32)
 }
 
 impl CraftContext {

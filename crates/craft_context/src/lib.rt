@@ -7,6 +7,7 @@ mod sheet;
 
 pub use build::Built;
 pub use context::CraftContext;
+pub use context::lasts;
 pub use sheet::CraftOptions;
 pub use sheet::Given;
 pub use sheet::Player;

@@ -23,7 +23,7 @@ use transcript::TRANSCRIPT_MOST;
 // The word, ten digits at most, and a newline.
 const REFUSED_MOST: usize = 19;
 
-// Words of at most so many bytes are read into a room of this size: one for all that an input can hold takes longer to clear than they to replay.
+// Words of at most so many bytes are read into a room of this size: one for all that an input can hold takes longer to clear than a short list to replay.
 const SHORT: usize = 1024;
 
 // A list of words, before which `base` bytes of the input stand, read into one room, and its replay in a context rendered into another.

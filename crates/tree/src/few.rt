@@ -19,7 +19,7 @@ use refusal::Refusal;
 // As many records as the table of their best children has room for.
 const FEW: usize = 4096;
 
-// Speed alone: with fewer, a search at each step takes about as long as clearing the table.
+// Speed alone: with fewer, a search at each step is mostly the faster. compare/reference/src/trees/ways.rs counts by both bounds.
 const WORTH_A_TABLE: usize = 12;
 
 pub fn fits_table(count: usize) -> bool

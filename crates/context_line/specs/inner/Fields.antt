@@ -29,21 +29,21 @@ listed numbers =
     numbers .«use_delineation» ∷
     []
 
--- the tests as the code parts them: of what is to be reached, up to the targets, and of what there is for it
-abbrev aims : ℕ
-aims = 8
+-- the tests of the fields before durability, and from it on: two functions, since all in one would be long
+abbrev early : ℕ
+early = 8
 
-abbrev pub aimTests : List ℕ → List Test
-aimTests values = take aims (numberTests values)
+abbrev pub earlyTests : List ℕ → List Test
+earlyTests values = take early (numberTests values)
 
-abbrev pub meansTests : List ℕ → List Test
-meansTests values = drop aims (numberTests values)
+abbrev pub lateTests : List ℕ → List Test
+lateTests values = drop early (numberTests values)
 
--- numbers that two fields of narrow types can hold: what `context_of` asks
+-- step_max is a byte, and durability at most its limit: what `context_of` asks
 pub record Fitting (numbers : Fields) : Type 0 where
   pub steps : numbers .«step_max» ≤ byteMost
   pub durability : numbers .«durability_max» ≤ durabilityMost
 
--- a number as a u32
+-- a number, or the greatest u32 where it is above that
 abbrev pub wordOf : ℕ → ℕ
 wordOf n = cond (leb n wordMost) n wordMost

@@ -106,8 +106,8 @@ abbrev Narrow : (ℕ → Bool) → Type 0
 Narrow field = (n : ℕ) → wordMost ≤ n → field n ≡ false
 
 -- a field that takes no greater number
-abbrev Word : (ℕ → Bool) → Type 0
-Word field = (n : ℕ) → field n ≡ true → n ≤ wordMost
+abbrev TakesWords : (ℕ → Bool) → Type 0
+TakesWords field = (n : ℕ) → field n ≡ true → n ≤ wordMost
 
 abbrev Each : ((ℕ → Bool) → Type 0) → List (ℕ → Bool) → Type 0
 Each P [] = Unit {0}
@@ -128,8 +128,8 @@ others-narrow =
     let set : Narrow takesSet = λ s l. le-ltb s (2 ^ actions) (omega arith) in
     (factor, (factor, (up-to byteMost (omega arith), (target, (target, (target, (lasting, (target, (flag, (set, (flag, (flag, (flag, tt)))))))))))))
 
-narrow-word : (field : ℕ → Bool) → Narrow field → (n : ℕ) → field (wordOf n) ≡ field n
-narrow-word field h n = by (either (leb n wordMost))
+narrow-same : (field : ℕ → Bool) → Narrow field → (n : ℕ) → field (wordOf n) ≡ field n
+narrow-same field h n = by (either (leb n wordMost))
   where
     by : (leb n wordMost ≡ true) ⊎ (leb n wordMost ≡ false) → field (wordOf n) ≡ field n
     by (inl t) = rw t
@@ -146,7 +146,7 @@ word-at (n ∷ values) (suc k) = word-at values k
 tests-words : (some : List (ℕ → Bool)) → Each Narrow some → (values : List ℕ) (k : ℕ) → testsFrom k some (map wordOf values) ≡ testsFrom k some values
 tests-words [] h values k = refl
 tests-words (field ∷ more) h values k =
-    rw (word-at values k, narrow-word field (h .0) (getD values k 0), tests-words more (h .1) values (k + 1))
+    rw (word-at values k, narrow-same field (h .0) (getD values k 0), tests-words more (h .1) values (k + 1))
 
 -- fifteen numbers of which the levels are u32
 pub numbers-words : (values : List ℕ) → getD values 0 0 ≤ wordMost → getD values 1 0 ≤ wordMost → numberTests (map wordOf values) ≡ numberTests values
@@ -154,18 +154,18 @@ numbers-words values f g =
     rw (word-at values 0, word-same _ f, word-at values 1, word-same _ g, tests-words (drop 2 takes) others-narrow values 2)
 
 -- and where each is taken, it is a u32
-narrow-least : (field : ℕ → Bool) → Narrow field → Word field
-narrow-least field h n t = by (either (leb n wordMost))
+narrow-word : (field : ℕ → Bool) → Narrow field → TakesWords field
+narrow-word field h n t = by (either (leb n wordMost))
   where
     by : (leb n wordMost ≡ true) ⊎ (leb n wordMost ≡ false) → n ≤ wordMost
     by (inl l) = leb-true n wordMost l
     by (inr g) = absurd (true-false (sym t ∙ h n (omega (arith, leb-false n wordMost g))))
 
-each-word : (some : List (ℕ → Bool)) → Each Narrow some → Each Word some
-each-word [] h = tt
-each-word (field ∷ more) h = (narrow-least field (h .0), each-word more (h .1))
+each-narrow : (some : List (ℕ → Bool)) → Each Narrow some → Each TakesWords some
+each-narrow [] h = tt
+each-narrow (field ∷ more) h = (narrow-word field (h .0), each-narrow more (h .1))
 
-rest-words : (some : List (ℕ → Bool)) → Each Word some → (values : List ℕ) (k : ℕ) → length values ≡ k + length some
+rest-words : (some : List (ℕ → Bool)) → Each TakesWords some → (values : List ℕ) (k : ℕ) → length values ≡ k + length some
     → Passed ≡ checksOf (testsFrom k some values) → map wordOf (drop k values) ≡ drop k values
 rest-words [] h values k e p = rw (drop-of-length-le values {i = k} (omega arith))
 rest-words (field ∷ more) h values k e p =
@@ -178,8 +178,8 @@ rest-words (field ∷ more) h values k e p =
 
 pub passed-words : (values : List ℕ) → length values ≡ fields → Passed ≡ checksOf (numberTests values) → map wordOf values ≡ values
 passed-words values e p =
-    let level : Word (upTo wordMost) = λ n t. leb-true n wordMost t in
-    rest-words takes (level, (level, each-word (drop 2 takes) others-narrow)) values 0 e p
+    let level : TakesWords (upTo wordMost) = λ n t. leb-true n wordMost t in
+    rest-words takes (level, (level, each-narrow (drop 2 takes) others-narrow)) values 0 e p
 
 -- ---- fifteen numbers by their places
 

@@ -45,14 +45,17 @@ pub malformed :
 unfolding shaped
 malformed = (refl, refl, refl, refl, refl, refl, refl, refl, refl, refl)
 
--- inside the limits; a level of 2 ^ 32, step_max 256, durability_max 98 and 0, a flag of 2; and a malformed line whose first number is too large
+-- inside the limits, also with a level of 2 ^ 32 - 1; a level of 2 ^ 32, step_max 256, durability_max 98 and 0, a pool of 2 ^ 31, a flag of 2;
+-- and a malformed line whose first number is too large
 pub answers :
     (checksOf (lineTests example) ≡ Passed) ×
+    (checksOf (lineTests (bytes "50 4294967295 100 100 8 200 0 0 40 100 0 33 0 0 0")) ≡ Passed) ×
     (checksOf (lineTests (bytes "4294967296 50 100 100 8 200 0 0 40 100 0 33 0 0 0")) ≡ Refused OutsideLimits) ×
     (checksOf (lineTests (bytes "50 50 100 100 256 200 0 0 40 100 0 33 0 0 0")) ≡ Refused OutsideLimits) ×
     (checksOf (lineTests (bytes "50 50 100 100 8 200 0 0 98 100 0 33 0 0 0")) ≡ Refused OutsideLimits) ×
     (checksOf (lineTests (bytes "50 50 100 100 8 200 0 0 0 100 0 33 0 0 0")) ≡ Refused OutsideLimits) ×
+    (checksOf (lineTests (bytes "50 50 100 100 8 200 0 0 40 100 0 2147483648 0 0 0")) ≡ Refused OutsideLimits) ×
     (checksOf (lineTests (fourteen ++ bytes " 2")) ≡ Refused OutsideLimits) ×
     (checksOf (lineTests (bytes "4294967296 50 100 100 8 200 0 0 40 100 0 33 0 0")) ≡ Refused MalformedLine)
 unfolding judged shaped valuesOf
-answers = (refl, refl, refl, refl, refl, refl, refl)
+answers = (refl, refl, refl, refl, refl, refl, refl, refl, refl)

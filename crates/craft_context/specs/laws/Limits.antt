@@ -1,10 +1,10 @@
 -- Laws of the limits.
 -- Assumes nothing.
 use mathlib.Core.Path.{_≡_, sym}
-use mathlib.Core.Bool.{true, false}
-use Prim.Native.Nat.{ℕ, _≤_, _<_}
+use mathlib.Core.Bool.{true}
+use Prim.Native.Nat.{_≤_, _<_}
 use native.Mathlib.Omega.{arith}
-use borrow.Author.Tests.{le-leb, lt-leb, lt-ltb, leb-true, ltb-true}
+use borrow.Author.Tests.{le-leb, lt-ltb, leb-true, ltb-true}
 use lib.Dec.{leb}
 use lib.IntN.{ℤ, pos, negsuc}
 use Rattle.laws.specs.laws.Tests.{true-false, both}
@@ -15,13 +15,6 @@ use Rattle.refusal.specs.Judge.{judged, checksOf}
 use Rattle.refusal.specs.laws.Judge.{shown}
 use Rattle.craft_context.specs.Limits.{durable, durabilityMost, contextTests, ContextIn}
 use Rattle.craft_context.specs.declared.context.CraftContext.{CraftContext}
-
-module _ {z : ℤ} {n : ℕ} (e : z ≡ pos n) where
-  pub durable-none : n < 1 → false ≡ durable z
-  durable-none h = rw (e, lt-leb 1 n h)
-
-  pub durable-most : 1 ≤ n → leb n durabilityMost ≡ durable z
-  durable-most h = rw (e, le-leb 1 n h)
 
 -- 1..=97, raised
 pub durable-raised : (z : ℤ) → durable z ≡ true → (raise (pos 0) < raise z) × (raise z ≤ raise (pos durabilityMost))

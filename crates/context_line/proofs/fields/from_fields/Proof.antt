@@ -8,52 +8,52 @@ use Rattle.refusal.specs.declared.Checked.the-variants.{Passed}
 use Rattle.refusal.specs.Judge.{Test, checksOf}
 use Rattle.refusal.specs.laws.Judge.{checks-on-by, stopped-by, onward-by, answered}
 use Rattle.context_line.specs.Fields.{numberTests}
-use Rattle.context_line.specs.inner.Fields.{listed, aimTests, meansTests}
+use Rattle.context_line.specs.inner.Fields.{listed, earlyTests, lateTests}
 use Rattle.context_line.specs.laws.Fields.{passed-taken, durability-most}
 use Rattle.context_line.specs.declared.fields.Read.the-variants.{Context}
 use Rattle.context_line.proofs.fields.from_fields.Statement.{statement}
 use Rattle.context_line.proofs.fields.from_fields.Tie as tie
 
 -- the two parts of the tests
-abbrev aims : tie.After-check-aims → List Test
-aims k = aimTests (listed (k .before .args .numbers))
+abbrev early : tie.After-check-early → List Test
+early k = earlyTests (listed (k .before .args .numbers))
 
-abbrev means : tie.After-check-aims → List Test
-means k = meansTests (listed (k .before .args .numbers))
+abbrev late : tie.After-check-early → List Test
+late k = lateTests (listed (k .before .args .numbers))
 
--- neither refused
 abbrev values : tie.After-enum-told2 → List ℕ
 values c = listed (c .before .before .before .before .before .before .args .numbers)
 
+-- neither refused
 passed : (c : tie.After-enum-told2) → Passed ≡ checksOf (numberTests (values c))
 passed c =
     let l = c .before .before in
     let k = l .before .before .before in
-    checks-on-by (aims k) (means k) (k .check-aims .ensures) (l .before .enum-told .given .1) (sym (c .enum-told2 .given .1) ∙ l .check-means .ensures)
+    checks-on-by (early k) (late k) (k .check-early .ensures) (l .before .enum-told .given .1) (sym (c .enum-told2 .given .1) ∙ l .check-late .ensures)
 
-check-aims-requires : tie.Need-check-aims-requires
-check-aims-requires c κs = search needs
+check-early-requires : tie.Need-check-early-requires
+check-early-requires c κs = search needs
 
-enum-known-aims : tie.Need-enum-known-aims
-enum-known-aims c = search needs
+enum-known-early : tie.Need-enum-known-early
+enum-known-early c = search needs
 
 returns : tie.Need-returns
-returns c = let k = c .before .before .before in stopped-by (aims k) (means k) (k .check-aims .ensures) (c .before .aims .given .1)
+returns c = let k = c .before .before .before in stopped-by (early k) (late k) (k .check-early .ensures) (c .before .early .given .1)
 
 enum-told : tie.Need-enum-told
 enum-told c = search needs
 
-check-means-requires : tie.Need-check-means-requires
-check-means-requires c κs = search needs
+check-late-requires : tie.Need-check-late-requires
+check-late-requires c κs = search needs
 
-enum-known-means : tie.Need-enum-known-means
-enum-known-means c = search needs
+enum-known-late : tie.Need-enum-known-late
+enum-known-late c = search needs
 
 returns-2 : tie.Need-returns-2
 returns-2 c =
     let l = c .before .before .before in
     let k = l .before .before .before in
-    onward-by (aims k) (means k) (k .check-aims .ensures) (l .before .enum-told .given .1) (stopped-by (means k) [] (l .check-means .ensures) (c .before .means .given .1))
+    onward-by (early k) (late k) (k .check-early .ensures) (l .before .enum-told .given .1) (stopped-by (late k) [] (l .check-late .ensures) (c .before .late .given .1))
 
 enum-told-2 : tie.Need-enum-told-2
 enum-told-2 c = search needs
@@ -70,12 +70,12 @@ pub from-fields-spec : {M : Type 1} → statement M
 from-fields-spec =
     tie.close
     (tie.spec
-    check-aims-requires
-    enum-known-aims
+    check-early-requires
+    enum-known-early
     returns
     enum-told
-    check-means-requires
-    enum-known-means
+    check-late-requires
+    enum-known-late
     returns-2
     enum-told-2
     context-of-requires

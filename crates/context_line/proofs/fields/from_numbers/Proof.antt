@@ -3,11 +3,13 @@
 use mathlib.Core.Path.{subst}
 use mathlib.Core.List.{List}
 use Prim.Native.Nat.{ℕ}
+use native.Mathlib.Omega.{arith}
 use borrow.Author.Needs.{needs}
 use borrow.Author.Tests.{le-leb, lt-leb}
+use lib.ListN.{getD}
 use Rattle.refusal.specs.Judge.{Says}
 use Rattle.refusal.specs.laws.Judge.{fails, holds}
-use Rattle.context_line.specs.Fields.{contextOf, numberTests}
+use Rattle.context_line.specs.Fields.{wordMost, contextOf, numberTests}
 use Rattle.context_line.specs.laws.Fields.{in-order}
 use Rattle.context_line.specs.Read.{read}
 use Rattle.context_line.specs.laws.Read.{words-read}
@@ -19,7 +21,10 @@ returns : tie.Need-returns
 returns c = fails (lt-leb _ _ (c .if1 .taken))
 
 returns-2 : tie.Need-returns-2
-returns-2 c = holds (le-leb _ _ (c .before .before .if1 .left)) (fails (lt-leb _ _ (c .if2 .taken)))
+returns-2 c =
+    let player = c .before .before .if1 .left in
+    let values = c .before .before .before .before .before .args .values .now in
+    holds (le-leb _ _ player) (fails (lt-leb (getD values 1 0) wordMost (omega (arith, player, c .if2 .taken))))
 
 returns-3 : tie.Need-returns-3
 returns-3 c =

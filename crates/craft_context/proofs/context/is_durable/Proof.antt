@@ -2,14 +2,13 @@
 -- Assumes nothing.
 use mathlib.Core.Path.{sym, ap, subst, _∙_}
 use native.Mathlib.Omega.{arith}
-use lib.Dec.{T, leb}
-use lib.IntN.{ℤ, natAbs}
+use lib.Dec.{T}
+use lib.IntN.{ℤ, pos, natAbs}
 use lib.Signed.{nonNeg}
 use mir.Syntax.{w32}
 use mir.Val.{Fits}
 use Rattle.laws.specs.laws.Sign.{Negative, negative, Plain, plain}
 use Rattle.craft_context.specs.Limits.{durable}
-use Rattle.craft_context.specs.laws.Limits.{durable-none, durable-most}
 use Rattle.craft_context.proofs.context.is_durable.Statement.{statement}
 use Rattle.craft_context.proofs.context.is_durable.Tie as tie
 
@@ -25,7 +24,5 @@ is-durable-spec =
     (tie.spec
     (λ c. sym (ap durable (below c .same)))
     (λ c. subst (λ (y : ℤ). T (nonNeg y) × Fits w32 (natAbs y)) (sym (above c .spared)) (tt, omega (arith, above c .small)))
-    (λ c. let p = above (c .before) in durable-none (p .same) (omega (arith, c .if2 .taken, ap natAbs (p .spared))))
-    (λ c.
-    let p = above (c .before) in
-    ap (λ (y : ℤ). leb (natAbs y) 97) (p .spared) ∙ durable-most (p .same) (omega (arith, c .if2 .left, ap natAbs (p .spared)))))
+    (λ c κs. tt)
+    (λ c. let p = above (c .before) in c .lasts .ensures ∙ ap (λ (y : ℤ). durable (pos (natAbs y))) (p .spared) ∙ sym (ap durable (p .same))))

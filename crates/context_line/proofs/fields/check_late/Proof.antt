@@ -1,4 +1,4 @@
--- `context_line::fields::check_means` meets its contract: the tests in their order.
+-- `context_line::fields::check_late` meets its contract: the tests in their order.
 -- Assumes nothing.
 use mathlib.Core.Path.{_≡_, sym, _∙_}
 use Prim.Native.Nat.{ℕ}
@@ -8,14 +8,14 @@ use lib.ListN.{drop}
 use Rattle.refusal.specs.Judge.{checksOf}
 use Rattle.refusal.specs.laws.Judge.{check-holds, check-fails, check-none}
 use Rattle.context_line.specs.Fields.{numberTests}
-use Rattle.context_line.specs.inner.Fields.{listed, meansTests}
+use Rattle.context_line.specs.inner.Fields.{listed, lateTests}
 use Rattle.context_line.specs.declared.fields.Fields.{Fields}
-use Rattle.context_line.proofs.fields.check_means.Statement.{statement}
-use Rattle.context_line.proofs.fields.check_means.Tie as tie
+use Rattle.context_line.proofs.fields.check_late.Statement.{statement}
+use Rattle.context_line.proofs.fields.check_late.Tie as tie
 
 -- the fields before place k take their numbers: what the tests from there on answer, all of them do
 abbrev Past : Fields → ℕ → Type 0
-Past n k = checksOf (drop k (numberTests (listed n))) ≡ checksOf (meansTests (listed n))
+Past n k = checksOf (drop k (numberTests (listed n))) ≡ checksOf (lateTests (listed n))
 
 past-durability : (c : tie.Else1) → Past (c .before .before .args .numbers) 9
 past-durability c = check-holds _ _ (sym (c .before .lasts .ensures) ∙ not-false _ (c .if1 .left))
@@ -38,8 +38,8 @@ past-manipulation c = check-holds _ _ (le-leb _ _ (c .if6 .left)) ∙ past-speci
 past-delineation : (c : tie.Else7) → Past (c .before .before .before .before .before .before .before .before .before .before .before .before .before .before .args .numbers) 15
 past-delineation c = check-holds _ _ (le-leb _ _ (c .if7 .left)) ∙ past-manipulation (c .before .before)
 
-pub check-means-spec : {M : Type 1} → statement M
-check-means-spec =
+pub check-late-spec : {M : Type 1} → statement M
+check-late-spec =
     tie.close
     (tie.spec
     (λ c κs. search needs)

@@ -1,4 +1,4 @@
--- `context_line::fields::check_aims` meets its contract: a level takes any u32, and the six others are tested in their order.
+-- `context_line::fields::check_early` meets its contract: a level takes any u32, and the six others are tested in their order.
 -- Assumes nothing.
 use mathlib.Core.Path.{_≡_, _∙_}
 use Prim.Native.Nat.{ℕ, _≤_}
@@ -11,14 +11,14 @@ use lib.ListN.{drop}
 use Rattle.refusal.specs.Judge.{checksOf}
 use Rattle.refusal.specs.laws.Judge.{check-holds, check-fails, check-none}
 use Rattle.context_line.specs.Fields.{wordMost}
-use Rattle.context_line.specs.inner.Fields.{listed, aimTests}
+use Rattle.context_line.specs.inner.Fields.{listed, earlyTests}
 use Rattle.context_line.specs.declared.fields.Fields.{Fields}
-use Rattle.context_line.proofs.fields.check_aims.Statement.{statement}
-use Rattle.context_line.proofs.fields.check_aims.Tie as tie
+use Rattle.context_line.proofs.fields.check_early.Statement.{statement}
+use Rattle.context_line.proofs.fields.check_early.Tie as tie
 
 -- the fields before place k take their numbers: what the tests from there on answer, all of them do
 abbrev Past : Fields → ℕ → Type 0
-Past n k = checksOf (drop k (aimTests (listed n))) ≡ checksOf (aimTests (listed n))
+Past n k = checksOf (drop k (earlyTests (listed n))) ≡ checksOf (earlyTests (listed n))
 
 -- the two levels
 player : (c : tie.Start) → Fits w32 (c .args .numbers .«player_job_level»)
@@ -27,11 +27,11 @@ player c = search needs
 recipe : (c : tie.Start) → Fits w32 (c .args .numbers .«recipe_job_level»)
 recipe c = search needs
 
-word : {m : ℕ} → Fits w32 m → m ≤ wordMost
-word f = omega (arith, f)
+at-most : {m : ℕ} → Fits w32 m → m ≤ wordMost
+at-most f = omega (arith, f)
 
 past-levels : (c : tie.Start) → Past (c .args .numbers) 2
-past-levels c = check-holds _ _ (le-leb _ _ (word (recipe c))) ∙ check-holds _ _ (le-leb _ _ (word (player c)))
+past-levels c = check-holds _ _ (le-leb _ _ (at-most (recipe c))) ∙ check-holds _ _ (le-leb _ _ (at-most (player c)))
 
 past-progress-factor : (c : tie.Else1) → Past (c .before .before .args .numbers) 3
 past-progress-factor c = check-holds _ _ (le-leb _ _ (c .if1 .left)) ∙ past-levels (c .before .before)
@@ -51,8 +51,8 @@ past-starting-quality c = check-holds _ _ (le-leb _ _ (c .if5 .left)) ∙ past-p
 past-quality-target : (c : tie.Else6) → Past (c .before .before .before .before .before .before .before .before .before .before .before .before .args .numbers) 8
 past-quality-target c = check-holds _ _ (le-leb _ _ (c .if6 .left)) ∙ past-starting-quality (c .before .before)
 
-pub check-aims-spec : {M : Type 1} → statement M
-check-aims-spec =
+pub check-early-spec : {M : Type 1} → statement M
+check-early-spec =
     tie.close
     (tie.spec
     (λ c. check-fails _ _ (lt-leb _ _ (c .if1 .taken)) ∙ past-levels (c .before .before))
