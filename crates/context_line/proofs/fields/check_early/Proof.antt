@@ -10,7 +10,7 @@ use borrow.Author.Tests.{le-leb, lt-leb}
 use lib.ListN.{drop}
 use Rattle.refusal.specs.Judge.{checksOf}
 use Rattle.refusal.specs.laws.Judge.{check-holds, check-fails, check-none}
-use Rattle.context_line.specs.Fields.{wordMost}
+use Rattle.context_line.specs.Fields.{wordMost, byteMost}
 use Rattle.context_line.specs.inner.Fields.{listed, earlyTests}
 use Rattle.context_line.specs.declared.fields.Fields.{Fields}
 use Rattle.context_line.proofs.fields.check_early.Statement.{statement}
@@ -40,7 +40,7 @@ past-quality-factor : (c : tie.Else2) → Past (c .before .before .before .befor
 past-quality-factor c = check-holds _ _ (le-leb _ _ (c .if2 .left)) ∙ past-progress-factor (c .before .before)
 
 past-steps : (c : tie.Else3) → Past (c .before .before .before .before .before .before .args .numbers) 5
-past-steps c = check-holds _ _ (le-leb _ _ (c .if3 .left)) ∙ past-quality-factor (c .before .before)
+past-steps c = check-holds _ _ (le-leb _ byteMost (c .if3 .left)) ∙ past-quality-factor (c .before .before)
 
 past-progress-target : (c : tie.Else4) → Past (c .before .before .before .before .before .before .before .before .args .numbers) 6
 past-progress-target c = check-holds _ _ (le-leb _ _ (c .if4 .left)) ∙ past-steps (c .before .before)
@@ -57,7 +57,7 @@ check-early-spec =
     (tie.spec
     (λ c. check-fails _ _ (lt-leb _ _ (c .if1 .taken)) ∙ past-levels (c .before .before))
     (λ c. check-fails _ _ (lt-leb _ _ (c .if2 .taken)) ∙ past-progress-factor (c .before .before))
-    (λ c. check-fails _ _ (lt-leb _ _ (c .if3 .taken)) ∙ past-quality-factor (c .before .before))
+    (λ c. check-fails _ _ (lt-leb _ byteMost (c .if3 .taken)) ∙ past-quality-factor (c .before .before))
     (λ c. check-fails _ _ (lt-leb _ _ (c .if4 .taken)) ∙ past-steps (c .before .before))
     (λ c. check-fails _ _ (lt-leb _ _ (c .if5 .taken)) ∙ past-progress-target (c .before .before))
     (λ c. check-fails _ _ (lt-leb _ _ (c .if6 .taken)) ∙ past-starting-quality (c .before .before))
