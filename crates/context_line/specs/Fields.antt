@@ -33,7 +33,8 @@ takesDurability n = durable (pos n)
 abbrev pub takesSet : ℕ → Bool
 takesSet s = setTest s .passed
 
--- field by field
+-- field by field: two levels, two factors, step_max; progress target, starting quality, quality target; durability, points; is_expert, the pool, and
+-- the three other flags
 abbrev pub takes : List (ℕ → Bool)
 takes =
     upTo wordMost ∷
