@@ -10,4 +10,7 @@ pub mod Raise
 pub mod Plus
 pub mod Small
 pub mod NoNan
+pub mod Order
+pub mod Monotone
+pub mod Within
 pub mod Floats

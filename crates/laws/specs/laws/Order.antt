@@ -1,0 +1,151 @@
+-- The order of floats: finite ones are in the order of the fractions, with a sign, that they are.
+-- Assumes nothing.
+use mathlib.Core.Path.{_≡_, refl, sym}
+use mathlib.Core.Bool.{Bool, true, false, _&&_, _||_}
+use mathlib.Core.Logic.{inl, inr}
+use Prim.Native.Nat.{ℕ, _+_, _*_, _≤_, _<_, zero-le}
+use native.Mathlib.Nat.{le-refl, eq-or-lt-of-le, lt-of-not-le, not-le-of-lt, mul-comm, mul-assoc, mul-left-comm, add-mul, zero-mul}
+use native.Mathlib.Nat.{mul-le-mul-right, le-of-mul-le-mul-right}
+use native.Mathlib.Omega.{arith}
+use lib.Dec.{T, ltb, eqb, lt→ltb, ltb→lt, eqb→eq}
+use lib.Ieee.{Float, nan, inf, fin, up, down, below, level, le, lt}
+use lib.Ieee.Fits.{down-pos, and-i, eq→eqb}
+use lib.Ieee.Positive.{den, den-pos}
+use lib.Ieee.Scale.{finite}
+use Rattle.laws.specs.laws.Tests.{and-left, and-right, or-left, or-right, or-cases}
+use Rattle.laws.specs.laws.Small.{or-le}
+
+-- ---- fractions with a sign
+
+-- (p - n) / c is at most (q - m) / d
+abbrev pub Leq : ℕ → ℕ → ℕ → ℕ → ℕ → ℕ → Type 0
+Leq p n c q m d = p * d + m * c ≤ q * c + n * d
+
+leq-trans : (p n c q m d r k e : ℕ) → 0 < d → Leq p n c q m d → Leq q m d r k e → Leq p n c r k e
+leq-trans p n c q m d r k e D h l =
+    let a = simp (add-mul, mul-assoc, mul-comm) at (mul-le-mul-right e h) in
+    let b = simp (add-mul, mul-assoc, mul-comm, mul-left-comm) at (mul-le-mul-right c l) in
+    let z : (p * e + k * c) * d ≤ (r * c + n * e) * d = simp (add-mul, mul-assoc, mul-comm) (omega (arith, a, b)) in
+    le-of-mul-le-mul-right z D
+
+-- ---- a finite float is (plus - minus) / den
+
+abbrev pub over : Bool → ℕ → ℕ
+over true a = 0
+over false a = a
+
+abbrev pub under : Bool → ℕ → ℕ
+under true a = a
+under false a = 0
+
+abbrev plus : Float → ℕ
+plus nan = 0
+plus (inf s) = 0
+plus (fin s m e) = over s (m * up e)
+
+abbrev minus : Float → ℕ
+minus nan = 0
+minus (inf s) = 0
+minus (fin s m e) = under s (m * up e)
+
+abbrev pub Below : Float → Float → Type 0
+Below x y = Leq (plus x) (minus x) (den x) (plus y) (minus y) (den y)
+
+-- ---- two magnitudes with their signs, as `le` compares them
+
+both-zero : (a b : ℕ) → a + b ≡ 0 → T (eqb a b && eqb a 0)
+both-zero a b h =
+    let same : a ≡ b = omega arith in
+    let none : a ≡ 0 = omega arith in
+    and-i (eqb a b) (eqb a 0) (eq→eqb same) (eq→eqb none)
+
+less-or-same : (a b : ℕ) (same : Bool) → a ≤ b → (a ≡ b → T same) → T (ltb a b || same)
+less-or-same a b same h e = elim (eq-or-lt-of-le h) [ inl p ↦ or-right (ltb a b) same (e p) | inr l ↦ or-left (ltb a b) same (lt→ltb a b l) ]
+
+signed-le : (s : Bool) (a : ℕ) (t : Bool) (b : ℕ) → over s a + under t b ≤ over t b + under s a → T (below s a t b || level s a t b)
+signed-le false a false b h = less-or-same a b (eqb a b && true) (omega arith) (λ e. and-i (eqb a b) true (eq→eqb e) tt)
+signed-le false a true b h = both-zero a b (omega arith)
+signed-le true a false b h = less-or-same 0 (a + b) (eqb a b && eqb a 0) zero-le (λ e. both-zero a b (sym e))
+signed-le true a true b h = less-or-same b a (eqb a b && true) (omega arith) (λ e. and-i (eqb a b) true (eq→eqb (sym e)) tt)
+
+le-signed : (s : Bool) (a : ℕ) (t : Bool) (b : ℕ) → T (below s a t b || level s a t b) → over s a + under t b ≤ over t b + under s a
+le-signed false a false b h = omega (arith, or-le a b true h)
+le-signed false a true b h = omega (arith, eqb→eq a b (and-left (eqb a b) (eqb a 0) h), eqb→eq a 0 (and-right (eqb a b) (eqb a 0) h))
+le-signed true a false b h = omega arith
+le-signed true a true b h =
+    elim (or-cases (ltb b a) (eqb a b && true) h) [ inl l ↦ omega (arith, ltb→lt b a l) | inr e ↦ omega (arith, eqb→eq a b (and-left (eqb a b) true e)) ]
+
+signed-lt : (s : Bool) (a : ℕ) (t : Bool) (b : ℕ) → over s a + under t b < over t b + under s a → T (below s a t b)
+signed-lt false a false b h = lt→ltb a b (omega arith)
+signed-lt false a true b h = omega arith
+signed-lt true a false b h = lt→ltb 0 (a + b) (omega arith)
+signed-lt true a true b h = lt→ltb b a (omega arith)
+
+lt-signed : (s : Bool) (a : ℕ) (t : Bool) (b : ℕ) → T (below s a t b) → over s a + under t b < over t b + under s a
+lt-signed false a false b h = omega (arith, ltb→lt a b h)
+lt-signed false a true b h = absurd h
+lt-signed true a false b h = omega (arith, ltb→lt 0 (a + b) h)
+lt-signed true a true b h = omega (arith, ltb→lt b a h)
+
+pub over-mul : (s : Bool) (a c : ℕ) → over s (a * c) ≡ over s a * c
+over-mul true a c = sym (zero-mul c)
+over-mul false a c = refl
+
+pub under-mul : (s : Bool) (a c : ℕ) → under s (a * c) ≡ under s a * c
+under-mul true a c = refl
+under-mul false a c = sym (zero-mul c)
+
+scaled : (s : Bool) (a c : ℕ) (t : Bool) (b d : ℕ) → over s (a * c) + under t (b * d) ≡ over s a * c + under t b * d
+scaled s a c t b d = rw (over-mul s a c, under-mul t b d)
+
+-- ---- finite floats are in the order of their fractions
+
+pub below-le : (x y : Float) → T (finite x) → T (finite y) → Below x y → T (le x y)
+unfolding le
+below-le nan y p q h = absurd p
+below-le (inf s) y p q h = absurd p
+below-le (fin s m e) nan p q h = absurd q
+below-le (fin s m e) (inf t) p q h = absurd q
+below-le (fin s m e) (fin t n d) p q h =
+    signed-le s (m * up e * down d) t (n * up d * down e)
+    (rw (scaled s (m * up e) (down d) t (n * up d) (down e), scaled t (n * up d) (down e) s (m * up e) (down d)) h)
+
+pub le-below : (x y : Float) → T (finite x) → T (finite y) → T (le x y) → Below x y
+unfolding le
+le-below nan y p q h = absurd p
+le-below (inf s) y p q h = absurd p
+le-below (fin s m e) nan p q h = absurd q
+le-below (fin s m e) (inf t) p q h = absurd q
+le-below (fin s m e) (fin t n d) p q h =
+    rw (← scaled s (m * up e) (down d) t (n * up d) (down e), ← scaled t (n * up d) (down e) s (m * up e) (down d))
+    (le-signed s (m * up e * down d) t (n * up d * down e) h)
+
+pub le-same : (x : Float) → T (finite x) → T (le x x)
+le-same x p = below-le x x p p (le-refl _)
+
+pub le-through : (x y z : Float) → T (finite x) → T (finite y) → T (finite z) → T (le x y) → T (le y z) → T (le x z)
+le-through x y z p q r h l =
+    below-le x z p r
+    (leq-trans (plus x) (minus x) (den x) (plus y) (minus y) (den y) (plus z) (minus z) (den z) (den-pos y) (le-below x y p q h) (le-below y z q r l))
+
+-- the same where the second is strict
+pub lt-after : (x y z : Float) → T (finite x) → T (finite y) → T (finite z) → T (le x y) → T (lt y z) → T (lt x z)
+unfolding lt
+lt-after nan y z p q r h l = absurd p
+lt-after (inf s) y z p q r h l = absurd p
+lt-after (fin s m e) nan z p q r h l = absurd q
+lt-after (fin s m e) (inf t) z p q r h l = absurd q
+lt-after (fin s m e) (fin t n d) nan p q r h l = absurd r
+lt-after (fin s m e) (fin t n d) (inf u) p q r h l = absurd r
+lt-after (fin s m e) (fin t n d) (fin u k g) p q r h l =
+    let x = m * up e in
+    let y = n * up d in
+    let z = k * up g in
+    let less : over t y * down g + under u z * down d < over u z * down d + under t y * down g =
+    rw (← scaled t y (down g) u z (down d), ← scaled u z (down d) t y (down g)) (lt-signed t (y * down g) u (z * down d) l) in
+    signed-lt s (x * down g) u (z * down e)
+    (rw (scaled s x (down g) u z (down e), scaled u z (down e) s x (down g))
+    (lt-of-not-le (λ b.
+    not-le-of-lt less
+    (leq-trans (over u z) (under u z) (down g) (over s x) (under s x) (down e) (over t y) (under t y) (down d) (down-pos e) b
+    (le-below (fin s m e) (fin t n d) tt tt h)))))
