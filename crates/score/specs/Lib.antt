@@ -1,3 +1,4 @@
 pub mod Score
 pub mod Result
+pub mod Bounds
 pub mod laws

@@ -1,2 +1,4 @@
 pub mod Score
+pub mod Shares
+pub mod Bounds
 pub mod Worked

@@ -8,11 +8,13 @@ use native.Mathlib.Nat.{le-refl, eq-or-lt-of-le, lt-of-not-le, not-le-of-lt, mul
 use native.Mathlib.Nat.{mul-le-mul-right, le-of-mul-le-mul-right}
 use native.Mathlib.Omega.{arith}
 use lib.Dec.{T, ltb, eqb, lt→ltb, ltb→lt, eqb→eq}
-use lib.Ieee.{Float, nan, inf, fin, up, down, below, level, le, lt}
+use lib.IntN.{pos}
+use lib.Ieee.{Float, nan, inf, fin, up, down, below, level, le, lt, eq}
 use lib.Ieee.Fits.{down-pos, and-i, eq→eqb}
 use lib.Ieee.Positive.{den, den-pos}
 use lib.Ieee.Scale.{finite}
 use Rattle.laws.specs.laws.Tests.{and-left, and-right, or-left, or-right, or-cases}
+use Rattle.laws.specs.laws.Plus.{Plus}
 use Rattle.laws.specs.laws.Small.{or-le}
 
 -- ---- fractions with a sign
@@ -149,3 +151,16 @@ lt-after (fin s m e) (fin t n d) (fin u k g) p q r h l =
     not-le-of-lt less
     (leq-trans (over u z) (under u z) (down g) (over s x) (under s x) (down e) (over t y) (under t y) (down d) (down-pos e) b
     (le-below (fin s m e) (fin t n d) tt tt h)))))
+
+pub lt-le : (x y : Float) → T (lt x y) → T (le x y)
+unfolding le
+lt-le x y h = or-left (lt x y) (eq x y) h
+
+-- what has no minus and is below a number is at least 0
+pub plus-least : (x y : Float) → Plus x → T (lt x y) → T (le (fin false 0 (pos 0)) x)
+unfolding le lt
+plus-least nan y p h = absurd h
+plus-least (inf true) y p h = absurd p
+plus-least (inf false) y p h = tt
+plus-least (fin true m e) y p h = absurd p
+plus-least (fin false m e) y p h = below-le (fin false 0 (pos 0)) (fin false m e) tt tt (omega arith)

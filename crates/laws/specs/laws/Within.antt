@@ -1,18 +1,32 @@
--- A float between two others, and what each rounded operation makes of the two: so a bound goes through a chain of them, and is worked out once.
+-- A float between two others, and what each rounded operation makes of the two: so a bound goes through a chain of operations, and is worked out once.
+-- The two are finite and at most a whole number in size, so that nothing overflows.
 -- Assumes nothing.
 use mathlib.Core.Bool.{true, false}
+use Prim.Native.Nat.{ℕ, _+_, _*_, _^_, _≤_}
 use lib.Dec.{T}
-use lib.Ieee.{Float, nan, inf, fin, Format, neg, add, sub, mul, le}
+use lib.Ieee.{Float, nan, inf, fin, Format, prec, neg, add, sub, mul, le}
 use lib.Ieee.Scale.{finite}
 use Rattle.laws.specs.laws.Plus.{Plus}
+use Rattle.laws.specs.laws.Small.{Small, add-small, sub-small, mul-small}
 use Rattle.laws.specs.laws.Order.{le-same}
 use Rattle.laws.specs.laws.Monotone.{neg-down, add-up, mul-up}
 
-pub record Within (lo x hi : Float) : Type 0 where
-  pub low : T (finite lo)
-  pub high : T (finite hi)
+pub record Within (b : ℕ) (lo x hi : Float) : Type 0 where
+  pub low : Small lo b
+  pub high : Small hi b
   pub from : T (le lo x)
   pub to : T (le x hi)
+
+pub small-finite : (x : Float) (b : ℕ) → Small x b → T (finite x)
+small-finite nan b p = p
+small-finite (inf s) b p = p
+small-finite (fin s m e) b p = tt
+
+neg-finite : (x : Float) → T (finite x) → T (finite (neg x))
+unfolding neg
+neg-finite nan p = p
+neg-finite (inf s) p = p
+neg-finite (fin s m e) p = tt
 
 -- what lies between finite floats is finite
 between-finite : (lo x hi : Float) → T (finite lo) → T (finite hi) → T (le lo x) → T (le x hi) → T (finite x)
@@ -26,42 +40,47 @@ between-finite (fin t m e) (inf false) (inf u) p q h l = absurd q
 between-finite (fin t m e) (inf false) (fin u n d) p q h l = absurd l
 between-finite lo (fin s m e) hi p q h l = tt
 
-pub within-finite : {lo x hi : Float} → Within lo x hi → T (finite x)
-within-finite {lo} {x} {hi} w = between-finite lo x hi (w .low) (w .high) (w .from) (w .to)
+module _ {b : ℕ} {lo x hi : Float} (w : Within b lo x hi) where
+  pub low-finite : T (finite lo)
+  low-finite = small-finite lo b (w .low)
 
-pub within-same : (x : Float) → T (finite x) → Within x x x
-within-same x p = record { low = p; high = p; from = le-same x p; to = le-same x p }
+  pub high-finite : T (finite hi)
+  high-finite = small-finite hi b (w .high)
 
-neg-finite : (x : Float) → T (finite x) → T (finite (neg x))
-unfolding neg
-neg-finite nan p = p
-neg-finite (inf s) p = p
-neg-finite (fin s m e) p = tt
+  pub within-finite : T (finite x)
+  within-finite = between-finite lo x hi low-finite high-finite (w .from) (w .to)
 
-module _ (f : Format) {lo x hi : Float} (w : Within lo x hi) where
-  pub add-within : {lo' y hi' : Float} → Within lo' y hi' → T (finite (add f lo lo')) → T (finite (add f hi hi')) → Within (add f lo lo') (add f x y) (add f hi hi')
-  add-within {lo'} {y} {hi'} v low high =
-      let p = within-finite w in
-      let q = within-finite v in
+pub within-same : (x : Float) (b : ℕ) → Small x b → Within b x x x
+within-same x b p = let same = le-same x (small-finite x b p) in record { low = p; high = p; from = same; to = same }
+
+module _ (f : Format) {b : ℕ} {lo x hi : Float} (w : Within b lo x hi) where
+  pub add-within : {d : ℕ} {lo' y hi' : Float} → b + d ≤ 2 ^ prec f → Within d lo' y hi' → Within (b + d) (add f lo lo') (add f x y) (add f hi hi')
+  add-within {d} {lo'} {y} {hi'} h v =
       record {
-        low = low;
-        high = high;
-        from = add-up f lo x lo' y (w .low) p (v .low) q (w .from) (v .from);
-        to = add-up f x hi y hi' p (w .high) q (v .high) (w .to) (v .to);
+        low = add-small f lo lo' b d h (w .low) (v .low);
+        high = add-small f hi hi' b d h (w .high) (v .high);
+        from = add-up f lo x lo' y (low-finite w) (within-finite w) (low-finite v) (within-finite v) (w .from) (v .from);
+        to = add-up f x hi y hi' (within-finite w) (high-finite w) (within-finite v) (high-finite v) (w .to) (v .to);
       }
 
-  pub mul-within : (b : Float) → Plus b → T (finite b) → T (finite (mul f b lo)) → T (finite (mul f b hi)) → Within (mul f b lo) (mul f b x) (mul f b hi)
-  mul-within b P B low high =
-      let p = within-finite w in
-      record { low = low; high = high; from = mul-up f b lo x P B (w .low) p (w .from); to = mul-up f b x hi P B p (w .high) (w .to) }
-
-  pub sub-within : (y : Float) → T (finite y) → T (finite (sub f y hi)) → T (finite (sub f y lo)) → Within (sub f y hi) (sub f y x) (sub f y lo)
-  unfolding sub
-  sub-within y q low high =
-      let p = neg-finite x (within-finite w) in
+  pub mul-within : (y : Float) (d : ℕ) → Plus y → Small y d → d * b ≤ 2 ^ prec f → Within (d * b) (mul f y lo) (mul f y x) (mul f y hi)
+  mul-within y d P p h =
+      let q = small-finite y d p in
       record {
-        low = low;
-        high = high;
-        from = add-up f y y (neg hi) (neg x) q q (neg-finite hi (w .high)) p (le-same y q) (neg-down x hi (w .to));
-        to = add-up f y y (neg x) (neg lo) q q p (neg-finite lo (w .low)) (le-same y q) (neg-down lo x (w .from));
+        low = mul-small f y lo d b h p (w .low);
+        high = mul-small f y hi d b h p (w .high);
+        from = mul-up f y lo x P q (low-finite w) (within-finite w) (w .from);
+        to = mul-up f y x hi P q (within-finite w) (high-finite w) (w .to);
+      }
+
+  pub sub-within : (y : Float) (d : ℕ) → Small y d → d + b ≤ 2 ^ prec f → Within (d + b) (sub f y hi) (sub f y x) (sub f y lo)
+  unfolding sub
+  sub-within y d p h =
+      let q = small-finite y d p in
+      let r = neg-finite x (within-finite w) in
+      record {
+        low = sub-small f y hi d b h p (w .high);
+        high = sub-small f y lo d b h p (w .low);
+        from = add-up f y y (neg hi) (neg x) q q (neg-finite hi (high-finite w)) r (le-same y q) (neg-down x hi (w .to));
+        to = add-up f y y (neg x) (neg lo) q q r (neg-finite lo (low-finite w)) (le-same y q) (neg-down lo x (w .from));
       }

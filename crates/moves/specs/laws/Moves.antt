@@ -3,13 +3,13 @@
 use mathlib.Core.Path.{_≡_, refl, sym, _∙_, subst}
 use mathlib.Core.Bool.{Bool, true, false, cond, not, _&&_}
 use Prim.Native.Nat.{ℕ, _+_, _≤_, _<_, zero-le}
-use native.Mathlib.Nat.{le-trans}
+use native.Mathlib.Nat.{le-trans, lt-of-lt-of-le, lt-of-not-le}
 use borrow.Author.Tests.{leb-true, leb-false, ltb-true, eqb-true, not-true}
 use lib.Dec.{eqb, leb, ltb}
 use lib.IntN.{pos}
-use lib.Pow.{pow-pos}
+use lib.Pow.{pow-pos, pow-mono}
 use lib.Signed.{leZ}
-use Rattle.laws.specs.laws.Tests.{both, and-both, neither}
+use Rattle.laws.specs.laws.Tests.{true-false, both, and-both, neither}
 use Rattle.laws.specs.Bits.{has}
 use Rattle.laws.specs.laws.Bits.{has-high, has-keep}
 use Rattle.action.specs.Actions as A
@@ -20,7 +20,8 @@ use Rattle.action.specs.Price.{chargeOf}
 use Rattle.action.specs.declared.table.Amount.{Amount}
 use Rattle.action.specs.declared.table.Amount.the-variants.{Of, Nothing}
 use Rattle.action.specs.declared.table.Attributes.{Attributes}
-use Rattle.action_set.specs.Sets.{keepOf}
+use Rattle.action_set.specs.Sets.{SetIn, keepOf}
+use Rattle.action_set.specs.laws.Sets.{set-inside}
 use Rattle.craft_context.specs.declared.context.CraftContext.{CraftContext}
 use Rattle.craft_state.specs.declared.state.CraftState.{CraftState}
 use Rattle.craft_state.specs.Limits.{stepLeast, stateInside}
@@ -56,6 +57,15 @@ module _ (rows : Rows) (c : CraftContext) (s : CraftState) (mode : Mode) where
           → has (cond t 0 (keepOf (allowsBy rows c s mode) (c .«action_pool» .0))) n ≡ not t && (has (c .«action_pool» .0) n && allowsBy rows c s mode n)
       by true = has-high 0 n (pow-pos n)
       by false = has-keep actions (c .«action_pool» .0) (allowsBy rows c s mode) n h
+
+  -- the moves are a set of known actions
+  pub legal-known : (n : ℕ) → has (movesBy rows c s mode) n ≡ true → n < actions
+  unfolding movesBy
+  legal-known n t = lt-of-not-le (λ h. true-false (sym t ∙ has-high (movesBy rows c s mode) n (lt-of-lt-of-le (by (ended c s)) (pow-mono h))))
+    where
+      by : (t : Bool) → SetIn (cond t 0 (keepOf (allowsBy rows c s mode) (c .«action_pool» .0)))
+      by true = pow-pos actions
+      by false = set-inside (λ m. has (c .«action_pool» .0) m && allowsBy rows c s mode m)
 
 -- ---- strict mode asks for all that an action's own rule asks
 

@@ -47,27 +47,27 @@ one-value : HasValue one false 1 1
 unfolding ofInt
 one-value = (refl, refl)
 
-one-small : Small one 1
+pub one-small : Small one 1
 unfolding ofInt
 one-small = lit≤ tt
 
-progress-small : Small progressBonus 1
+pub progress-small : Small progressBonus 1
 unfolding ofInt div
 progress-small = lit≤ tt
 
-quality-small : Small qualityBonus 1
+pub quality-small : Small qualityBonus 1
 unfolding ofInt div
 quality-small = lit≤ tt
 
-durability-small : Small durabilityBonus 1
+pub durability-small : Small durabilityBonus 1
 unfolding ofInt div
 durability-small = lit≤ tt
 
-cp-small : Small cpBonus 1
+pub cp-small : Small cpBonus 1
 unfolding ofInt div
 cp-small = lit≤ tt
 
-fewer-steps-small : Small fewerStepsBonus 1
+pub fewer-steps-small : Small fewerStepsBonus 1
 unfolding ofInt div
 fewer-steps-small = lit≤ tt
 

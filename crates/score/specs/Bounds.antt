@@ -1,0 +1,39 @@
+-- Document 02, E10, "Can a score reach one?": what every finished score of a replay is between, in IEEE 754's order.
+-- Assumes nothing.
+use Prim.Native.Nat.{_<_}
+use lib.Dec.{T}
+use lib.IntN.{negsuc}
+use lib.Ieee.{Float, binary32, ofInt, neg, add, mul, lt, le}
+use Rattle.laws.specs.Floats.{hundredths, one}
+use Rattle.craft_context.specs.declared.context.CraftContext.{CraftContext}
+use Rattle.craft_state.specs.Limits.{stepLeast, stepMost}
+use Rattle.score.specs.Score.{progressBonus, qualityBonus, durabilityBonus, cpBonus, fewerStepsBonus, fewerOf}
+use Rattle.score.specs.declared.result.CraftResult.{CraftResult}
+use Rattle.score.specs.declared.result.CraftResult.the-variants as R
+
+abbrev pub minusOne : Float
+minusOne = ofInt binary32 (negsuc 0)
+
+-- the greatest score, 0.9998039: each part full, at the first of 255 steps
+abbrev pub greatestScore : Float
+greatestScore =
+    add binary32
+    (add binary32 (add binary32 (add binary32 progressBonus qualityBonus) durabilityBonus) cpBonus)
+    (mul binary32 fewerStepsBonus (fewerOf stepLeast stepMost))
+
+-- a craft that is finished in time has no score below -0.75
+abbrev pub leastFinished : Float
+leastFinished = neg (hundredths 75)
+
+-- below 1; and at least -1 where step_max is above 0, as it is minus infinity where that is 0
+pub record ScoreBounds (c : CraftContext) (score : Float) : Type 0 where
+  pub below : T (lt score one)
+  pub least : 0 < c .«step_max» → T (le minusOne score)
+
+-- the score in a result is
+abbrev pub ScoreIsBounded : CraftContext → CraftResult → Type 0
+ScoreIsBounded c (R.Finished score) = ScoreBounds c score
+ScoreIsBounded c R.DurabilityFailure = Unit {0}
+ScoreIsBounded c R.MaxStepsFailure = Unit {0}
+ScoreIsBounded c R.InvalidActionFailure = Unit {0}
+ScoreIsBounded c R.Continuing = Unit {0}

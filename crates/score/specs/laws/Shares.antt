@@ -1,0 +1,135 @@
+-- The five shares of a score, each between its least and its greatest, and what the bonuses make of them: by the order that the rounded operations keep.
+-- Assumes nothing.
+use mathlib.Core.Path.{_≡_, refl, ap}
+use mathlib.Core.Bool.{Bool, true, false, cond}
+use Prim.Native.Nat.{ℕ, zero, suc, _-_, _≤_, _<_}
+use native.Mathlib.Nat.{zero-lt-suc}
+use native.Mathlib.Omega.{arith}
+use lib.Dec.{T, lit≤}
+use lib.IntN.{ℤ, pos, negsuc}
+use lib.Ieee.{Float, binary32, ofInt, add, mul, div, lt, le}
+use Rattle.laws.specs.Floats.{float, hundredths, one}
+use Rattle.laws.specs.laws.Plus.{Plus, plus-of-nat, plus-div}
+use Rattle.laws.specs.laws.Small.{Small, small-more, of-nat-value}
+use Rattle.laws.specs.laws.NoNan.{over-zero}
+use Rattle.laws.specs.laws.Order.{le-same, lt-le, plus-least}
+use Rattle.laws.specs.laws.Monotone.{quotient-up}
+use Rattle.laws.specs.laws.Within.{Within, within-same, add-within, mul-within, sub-within}
+use Rattle.action.specs.Limits.{amountMost}
+use Rattle.craft_state.specs.Limits.{stepLeast, stepMost, durabilityLeast}
+use Rattle.craft_state.specs.Inside.{DurabilityIn}
+use Rattle.craft_state.specs.laws.Inside.{raised}
+use Rattle.score.specs.Score.{progressBonus, qualityBonus, durabilityBonus, cpBonus, fewerStepsBonus, cappedOf, fewerOf}
+use Rattle.score.specs.laws.Score.{one-small, progress-small, quality-small, durability-small, cp-small, fewer-steps-small}
+
+-- ---- the share of the steps that is left: at most what the first of 255 steps leaves, and in time at least none
+
+-- the step and step_max of the least share
+abbrev pub latest : Bool → ℕ
+latest timely = cond timely stepLeast stepMost
+
+module _ (step most : ℕ) (started : stepLeast ≤ step) (byte : step ≤ stepMost) (some : 0 < most) (top : most ≤ stepMost) where
+  used-within : (timely : Bool) → (T timely → step ≤ most)
+      → Within stepMost (div binary32 (float stepLeast) (float stepMost)) (div binary32 (float step) (float most)) (div binary32 (float (latest timely)) one)
+  unfolding ofInt div
+  used-within timely early = record { low = lit≤ tt; high = high timely; from = from; to = to timely early }
+    where
+      high : (timely : Bool) → Small (div binary32 (float (latest timely)) one) stepMost
+      high true = lit≤ tt
+      high false = lit≤ tt
+
+      from : T (le (div binary32 (float stepLeast) (float stepMost)) (div binary32 (float step) (float most)))
+      from = quotient-up binary32 (pos stepLeast) stepMost (pos step) most (lit≤ tt) some (lit≤ tt) (lit≤ tt) (omega arith) (omega arith) (omega arith)
+
+      to : (timely : Bool) → (T timely → step ≤ most) → T (le (div binary32 (float step) (float most)) (div binary32 (float (latest timely)) one))
+      to true early = quotient-up binary32 (pos step) most (pos stepLeast) 1 some (lit≤ tt) (omega arith) (omega arith) (lit≤ tt) (lit≤ tt) (omega (arith, early tt))
+      to false early = quotient-up binary32 (pos step) most (pos stepMost) 1 some (lit≤ tt) (omega arith) (omega arith) (lit≤ tt) (lit≤ tt) (omega arith)
+
+  pub fewer-within : (timely : Bool) → (T timely → step ≤ most) → Within 256 (fewerOf (latest timely) 1) (fewerOf step most) (fewerOf stepLeast stepMost)
+  fewer-within timely early = sub-within binary32 (used-within timely early) one 1 one-small (lit≤ tt)
+
+-- ---- a quotient under the cap
+
+capped-within : (b : ℕ) (lo q : Float) → 1 ≤ b → Small lo b → T (le lo one) → (T (lt q one) → T (le lo q)) → Within b lo (cappedOf q) one
+unfolding ofInt
+capped-within b lo q B p h k = go (lt q one) (lt-le q one) k
+  where
+    go : (t : Bool) → (T t → T (le q one)) → (T t → T (le lo q)) → Within b lo (cond t q one) one
+    go true a c = record { low = p; high = small-more one 1 b B one-small; from = c tt; to = a tt }
+    go false a c = record { low = p; high = small-more one 1 b B one-small; from = h; to = le-same one tt }
+
+-- of whole numbers it is at least 0
+pub whole-within : (value target : ℕ) → Within 1 (float 0) (cappedOf (div binary32 (float value) (float target))) one
+unfolding ofInt le
+whole-within value target =
+    let q = div binary32 (float value) (float target) in
+    capped-within 1 (float 0) q (lit≤ tt) (lit≤ tt) tt
+    (plus-least q one (plus-div binary32 (float value) (float target) (plus-of-nat binary32 value) (plus-of-nat binary32 target)))
+
+-- and 1 where the value is at its target
+over-nothing : (value : ℕ) → value ≤ amountMost → cappedOf (div binary32 (float value) (float 0)) ≡ one
+unfolding ofInt div lt
+over-nothing zero h = refl
+over-nothing (suc v) h = ap cappedOf (over-zero binary32 (float (suc v)) (suc v) (zero-lt-suc v) (of-nat-value binary32 (suc v) h))
+
+pub full-within : (value target : ℕ) → value ≤ amountMost → target ≤ value → Within 1 one (cappedOf (div binary32 (float value) (float target))) one
+unfolding ofInt div
+full-within value zero h l = rw (over-nothing value h) (within-same one 1 one-small)
+full-within value (suc t) h l =
+    capped-within 1 one (div binary32 (float value) (float (suc t))) (lit≤ tt) one-small (le-same one tt)
+    (λ k. quotient-up binary32 (pos 1) 1 (pos value) (suc t) (lit≤ tt) (zero-lt-suc t) (lit≤ tt) (lit≤ tt) (omega arith) (omega arith) (omega arith))
+
+-- durability may be below 0, by 19 at most
+abbrev pub leastShare : Float
+leastShare = div binary32 (ofInt binary32 durabilityLeast) one
+
+pub durability-within : (d most : ℤ) → DurabilityIn d most → Within 19 leastShare (cappedOf (div binary32 (ofInt binary32 d) (ofInt binary32 most))) one
+unfolding ofInt div le
+durability-within d (negsuc n) h = absurd (none n (raised h .above))
+  where
+    none : (n : ℕ) → 1000 < 999 - n → ⊥
+    none n h = omega arith
+durability-within (pos a) (pos n) h =
+    let r = raised h in
+    capped-within 19 leastShare (div binary32 (float a) (float n)) (lit≤ tt) (lit≤ tt) tt
+    (λ k.
+    quotient-up binary32 durabilityLeast 1 (pos a) n (lit≤ tt) (omega (arith, r .above)) (lit≤ tt) (lit≤ tt) (omega (arith, r .to, r .top)) (omega (arith, r .top)) (omega arith))
+durability-within (negsuc a) (pos n) h =
+    let r = raised h in
+    capped-within 19 leastShare (div binary32 (ofInt binary32 (negsuc a)) (float n)) (lit≤ tt) (lit≤ tt) tt
+    (λ k.
+    quotient-up binary32 durabilityLeast 1 (negsuc a) n (lit≤ tt) (omega (arith, r .above)) (lit≤ tt) (lit≤ tt) (omega (arith, r .from)) (omega (arith, r .top)) (omega (arith, r .from, r .above)))
+
+-- ---- five shares, weighed by their bonuses and added from left to right
+
+abbrev pub weigh : Float → Float → Float → Float → Float → Float
+weigh progress quality durability cp fewer =
+    add binary32
+    (add binary32
+    (add binary32
+    (add binary32 (mul binary32 progressBonus progress) (mul binary32 qualityBonus quality))
+    (mul binary32 durabilityBonus durability))
+    (mul binary32 cpBonus cp))
+    (mul binary32 fewerStepsBonus fewer)
+
+-- a bonus is not negative
+plus-bonus : (n : ℕ) → Plus (hundredths n)
+plus-bonus n = plus-div binary32 (float n) (float 100) (plus-of-nat binary32 n) (plus-of-nat binary32 100)
+
+pub weigh-within : {p₀ p p₁ q₀ q q₁ d₀ d d₁ c₀ c c₁ f₀ f f₁ : Float}
+    → Within 1 p₀ p p₁ → Within 1 q₀ q q₁ → Within 19 d₀ d d₁ → Within 1 c₀ c c₁ → Within 256 f₀ f f₁
+    → Within 278 (weigh p₀ q₀ d₀ c₀ f₀) (weigh p q d c f) (weigh p₁ q₁ d₁ c₁ f₁)
+weigh-within p q d c f =
+    add-within binary32
+    (add-within binary32
+    (add-within binary32
+    (add-within binary32
+    (mul-within binary32 p progressBonus 1 (plus-bonus 20) progress-small (lit≤ tt))
+    (lit≤ tt)
+    (mul-within binary32 q qualityBonus 1 (plus-bonus 65) quality-small (lit≤ tt)))
+    (lit≤ tt)
+    (mul-within binary32 d durabilityBonus 1 (plus-bonus 5) durability-small (lit≤ tt)))
+    (lit≤ tt)
+    (mul-within binary32 c cpBonus 1 (plus-bonus 5) cp-small (lit≤ tt)))
+    (lit≤ tt)
+    (mul-within binary32 f fewerStepsBonus 1 (plus-bonus 5) fewer-steps-small (lit≤ tt))
