@@ -25,7 +25,7 @@ replayedTold (R.Refused x) = reportOf x
 abbrev pub replayed : Kind Replayed
 replayed = record { told = replayedTold; refused = R.Refused; refusing = λ x. refl }
 
--- demand 3, of what is reported
+-- demand 3, and the bounds of a finished score, of what is reported
 abbrev Kept : CraftContext → Mode → List ℕ → Replayed → Type 0
 Kept context mode list (R.Report replay) = Promise context mode list replay
 Kept context mode list (R.Refused x) = Unit {0}

@@ -20,6 +20,7 @@ use Rattle.craft_state.specs.Start.{startOf}
 use Rattle.step.specs.Step.{executeBy}
 use Rattle.moves.specs.declared.mode.Mode.{Mode}
 use Rattle.moves.specs.Moves.{movesBy}
+use Rattle.score.specs.Bounds.{ScoreIsBounded}
 use Rattle.simulator.specs.declared.replay.Replay.{Replay}
 use Rattle.simulator.specs.Alone.{pricesBy, stepsIn}
 
@@ -79,6 +80,8 @@ module _ (rows : Rows) (c : CraftContext) (mode : Mode) (list : List ℕ) where
     pub each : (k : ℕ) → k ≤ replay .executed → AfterFirst k
     pub state : replay .state ≡ reached (replay .executed)
     pub few : replay .executed ≤ stepMost
+    -- a finished score is below 1, and at least -1 where step_max is above 0 (document 02, E10)
+    pub score : ScoreIsBounded c (replay .result)
 
 -- by the table of action.rs
 abbrev pub Promise : CraftContext → Mode → List ℕ → Replay → Type 0

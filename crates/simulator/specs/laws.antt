@@ -1,4 +1,5 @@
 pub mod Replay
 pub mod Alone
+pub mod Scores
 pub mod Promise
 pub mod Bench

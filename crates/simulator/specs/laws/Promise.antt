@@ -35,6 +35,7 @@ use Rattle.simulator.specs.laws.Replay.{replay-on}
 use Rattle.simulator.specs.Alone.{stepsIn}
 use Rattle.simulator.specs.laws.Alone.{prices-charged}
 use Rattle.simulator.specs.Promise.{after, EachLegal, chargesBy, AfterFirst, Longest, PromiseBy}
+use Rattle.simulator.specs.laws.Scores.{scores-bounded}
 use Rattle.simulator.specs.inner.Known.{AllKnown}
 
 -- ---- known actions
@@ -227,4 +228,5 @@ module _ (rows : Rows) (bounded : RowsIn rows) (c : CraftContext) (mode : Mode) 
           each = λ k h. after-first k (part-legal (startOf c) list k (lead (startOf c) list) (le-trans h (le-of-eq e)) (r .legal));
           state = r .state ∙ ap (λ (k : ℕ). after rows c (startOf c) (take k list)) (sym e);
           few = le-trans (le-of-eq e) (at-most (lead (startOf c) list) (r .part) (r .legal));
+          score = scores-bounded rows bounded c top mode inside list;
         }
