@@ -86,6 +86,16 @@ pub mod simulator {
             (sim, index, result)
         }
 
+        /// As `search_oneshot`, and how many nodes its tree has.
+        pub fn search_counted(
+            context: &'a CraftContext,
+            options: SearchOptions,
+        ) -> (Vec<Action>, CraftState<'a>, usize) {
+            let mut sim = Self::from_context(context, options);
+            let (actions, state) = sim.search(0).solution();
+            (actions, state, sim.tree.nodes.len())
+        }
+
         fn depth(&self, index: usize) -> usize {
             let parent = |index: &usize| self.tree.get(*index).parent;
             std::iter::successors(Some(index), parent).skip(1).count()
@@ -130,4 +140,4 @@ pub use craft_context::{CraftContext, CraftOptions};
 pub use craft_state::{Buffs, CraftResult, CraftState};
 pub use player::Player;
 pub use recipe::Recipe;
-pub use simulator::Simulator;
+pub use simulator::{SearchOptions, Simulator};

@@ -3,8 +3,8 @@
 use Prim.Native.Nat.{_<_}
 use lib.Dec.{T}
 use lib.IntN.{negsuc}
-use lib.Ieee.{Float, binary32, ofInt, neg, add, mul, lt, le}
-use Rattle.laws.specs.Floats.{hundredths, one}
+use lib.Ieee.{Float, binary32, ofInt, add, mul, lt, le}
+use Rattle.laws.specs.Floats.{one}
 use Rattle.craft_context.specs.declared.context.CraftContext.{CraftContext}
 use Rattle.craft_state.specs.Limits.{stepLeast, stepMost}
 use Rattle.score.specs.Score.{progressBonus, qualityBonus, durabilityBonus, cpBonus, fewerStepsBonus, fewerOf}
@@ -20,10 +20,6 @@ greatestScore =
     add binary32
     (add binary32 (add binary32 (add binary32 progressBonus qualityBonus) durabilityBonus) cpBonus)
     (mul binary32 fewerStepsBonus (fewerOf stepLeast stepMost))
-
--- a craft that is finished in time has no score below -0.75
-abbrev pub leastFinished : Float
-leastFinished = neg (hundredths 75)
 
 -- below 1; and at least -1 where step_max is above 0, as it is minus infinity where that is 0
 pub record ScoreBounds (c : CraftContext) (score : Float) : Type 0 where

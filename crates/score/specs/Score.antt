@@ -51,7 +51,7 @@ weighedOf context state =
     (partOf cpBonus (float (state .cp)) (float (context .«cp_max»))))
     (mul binary32 fewerStepsBonus (fewerOf (state .step) (context .«step_max»)))
 
--- without a quality target the steps alone count
+-- without a quality target the steps alone count; past step_max either goes far below -1 (`late-weighed` and `late-alone` in laws/Worked.antt)
 unfoldable pub scoreOf : CraftContext → CraftState → Float
 scoreOf context state =
     cond (eqb (context .«quality_target») 0) (fewerOf (state .step) (context .«step_max»)) (weighedOf context state)

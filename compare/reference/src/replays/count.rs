@@ -34,6 +34,7 @@ pub fn count(tally: &mut Tally, replay: &Replay) -> Result<(), Refusal> {
 
 fn count_end(tally: &mut Tally, mode: Mode, report: &Report) {
     tally.add_result(mode, &report.result);
+    check_score(report);
     let is_invalid = matches!(report.result, Some(CraftResult::InvalidActionFailure));
     if is_invalid && !report.state.available_moves.is_empty() {
         tally.add(Event::Illegal(mode));
@@ -41,6 +42,13 @@ fn count_end(tally: &mut Tally, mode: Mode, report: &Report) {
     let holds = |(least, most): &(usize, usize)| (*least..=*most).contains(&report.executed);
     let (least, most) = LENGTHS.into_iter().find(holds).expect("a length of at most 255");
     tally.add(Event::Length(mode, least, most));
+}
+
+/// A finished score is below 1, and at least -1 where step_max is above 0.
+fn check_score(report: &Report) {
+    let Some(CraftResult::Finished(score)) = report.result else { return };
+    let least = if report.state.context.step_max == 0 { f32::NEG_INFINITY } else { -1.0 };
+    assert!((least..1.0).contains(&score), "a score of {score} in {:?}", report.state);
 }
 
 fn count_executed(tally: &mut Tally, context: &CraftContext, mode: Mode, actions: &[Action]) {

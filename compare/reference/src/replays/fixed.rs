@@ -29,11 +29,13 @@ fn of_craft((context, mode, actions): Craft) -> Replay {
 }
 
 /// What a list shows beyond the states on its way: where replay ends, and on what.
-fn more_crafts() -> [Craft; 9] {
+fn more_crafts() -> [Craft; 11] {
     let short = CraftContext { step_max: 1, ..bench() };
     let poor = CraftContext { progress_target: 100, ..with_cp(0) };
     let worthless = CraftContext { quality_target: 0, ..poor.clone() };
     let finished = CraftContext { progress_target: 0, ..bench() };
+    let greatest = CraftContext { step_max: 255, starting_quality: 1_000, ..finished.clone() };
+    let low = CraftContext { step_max: 3, durability_max: 1, cp_max: 7, ..poor.clone() };
     [
         (bench(), Mode::Plain, &[]),
         (bench(), Mode::Strict, &[]),
@@ -43,6 +45,8 @@ fn more_crafts() -> [Craft; 9] {
         (poor, Mode::Plain, &[BasicSynthesis, BasicSynthesis]),
         (worthless, Mode::Plain, &[BasicSynthesis]),
         (finished, Mode::Plain, &[BasicSynthesis]),
+        (greatest, Mode::Plain, &[]),
+        (low, Mode::Plain, &[Observe, BasicSynthesis]),
         (bench(), Mode::Plain, &[BasicTouch, Reflect, StandardTouch]),
     ]
 }

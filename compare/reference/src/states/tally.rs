@@ -66,16 +66,38 @@ pub fn craft_events(mode: Mode) -> Vec<Event> {
     events
 }
 
-/// The events in the order of the report, and how often each was met.
+/// The events in the order of the report, how often each was met, and the scores of finished crafts.
 pub struct Tally {
     events: Vec<Event>,
     counts: HashMap<Event, u64>,
+    scores: Scores,
+}
+
+/// The least and the greatest score of those that are finite, which none is where step_max is 0.
+#[derive(Default)]
+struct Scores(Option<(f32, f32)>);
+
+impl Scores {
+    fn add(&mut self, score: f32) {
+        if score.is_finite() {
+            let (least, greatest) = self.0.unwrap_or((score, score));
+            self.0 = Some((least.min(score), greatest.max(score)));
+        }
+    }
+}
+
+impl fmt::Display for Scores {
+    fn fmt(&self, out: &mut fmt::Formatter) -> fmt::Result {
+        let Some((least, greatest)) = self.0 else { return Ok(()) };
+        let [low, high] = [least, greatest].map(result::hex);
+        writeln!(out, "finished scores: {low} ({least}) to {high} ({greatest})")
+    }
 }
 
 impl Tally {
     pub fn new(events: Vec<Event>) -> Tally {
         let counts = events.iter().map(|event| (*event, 0)).collect();
-        Tally { events, counts }
+        Tally { events, counts, scores: Scores::default() }
     }
 
     /// An event that was thought impossible has no count and stops the run.
@@ -85,6 +107,9 @@ impl Tally {
 
     pub fn add_result(&mut self, mode: Mode, result: &Option<CraftResult>) {
         self.add(Event::Result(mode, result::name(result)));
+        if let Some(CraftResult::Finished(score)) = result {
+            self.scores.add(*score);
+        }
     }
 
     pub fn add_execution(&mut self, mode: Mode, before: &CraftState, after: &CraftState) {
@@ -104,6 +129,7 @@ impl fmt::Display for Tally {
         for event in &self.events {
             writeln!(out, "{:>10} {event}", self.counts[event])?;
         }
+        write!(out, "{}", self.scores)?;
         match self.events.iter().min_by_key(|event| self.counts[event]) {
             Some(least) => writeln!(out, "least: {} {least}", self.counts[least]),
             None => Ok(()),

@@ -7,12 +7,13 @@ use Prim.Native.Nat.{ℕ, zero, suc, _+_, _≤_, _<_}
 use native.Mathlib.Nat.{zero-lt-suc}
 use native.Mathlib.Omega.{arith}
 use lib.Dec.{T, eqb, leb, lit≤}
-use lib.IntN.{pos}
+use lib.IntN.{pos, negsuc}
 use lib.Signed.{leZ}
+use borrow.Author.Tests.{ne-eqb}
 use lib.Ieee.{Float, inf, binary32, ofBits, ofInt, toBits, neg, add, sub, mul, div, lt, le}
 use lib.Ieee.Scale.{finite}
 use Rattle.laws.specs.Bits.{has}
-use Rattle.laws.specs.Floats.{float, one}
+use Rattle.laws.specs.Floats.{float, hundredths, one}
 use Rattle.laws.specs.laws.Floats.{fifth-bits, sixty-five-bits, twentieth-bits}
 use Rattle.laws.specs.laws.Order.{le-through, lt-after}
 use Rattle.laws.specs.laws.Within.{Within, low-finite, high-finite, within-finite}
@@ -32,7 +33,7 @@ use Rattle.moves.specs.Moves.{movesBy}
 use Rattle.moves.specs.laws.Moves.{legal-known, legal-playable, legal-keeps}
 use Rattle.score.specs.Score.{progressBonus, qualityBonus, durabilityBonus, cappedOf, fewerOf, weighedOf, scoreOf}
 use Rattle.score.specs.Result.{judgedBy}
-use Rattle.score.specs.Bounds.{minusOne, greatestScore, leastFinished, ScoreBounds, ScoreIsBounded}
+use Rattle.score.specs.Bounds.{minusOne, greatestScore, ScoreBounds, ScoreIsBounded}
 use Rattle.score.specs.declared.result.CraftResult.the-variants as R
 use Rattle.score.specs.laws.Score.{score-minus-inf}
 use Rattle.score.specs.laws.Shares.{latest, leastShare, weigh, fewer-within, whole-within, full-within, durability-within, weigh-within}
@@ -83,25 +84,43 @@ nothing-below-one : T (lt (inf true) one)
 unfolding ofInt lt
 nothing-below-one = tt
 
-minus-one-below-steps : T (le minusOne (fewerOf stepLeast 1))
-unfolding ofInt sub div le
-minus-one-below-steps = tt
-
-minus-one-below-all : T (le minusOne (leastOf false true))
-unfolding ofInt add sub mul div le
-minus-one-below-all = tt
-
-least-finished-below-steps : T (le leastFinished (fewerOf stepLeast 1))
-unfolding ofInt neg sub div le
-least-finished-below-steps = tt
-
-least-finished-below-all : T (le leastFinished (leastOf true true))
-unfolding ofInt neg add sub mul div le
-least-finished-below-all = tt
-
 steps-below-greatest : T (le (fewerOf stepLeast stepMost) greatestScore)
 unfolding ofInt add sub mul div le
 steps-below-greatest = tt
+
+-- at most the least of both, the steps alone and the parts weighed
+abbrev Under : Float → Bool → Bool → Type 0
+Under lo finished timely = T (finite lo) × T (le lo (fewerOf (latest timely) 1)) × T (le lo (leastOf finished timely))
+
+under-one : Under minusOne false true
+unfolding ofInt add sub mul div le
+under-one = (tt, tt, tt)
+
+under-three-quarters : Under (neg (hundredths 75)) true true
+unfolding ofInt neg add sub mul div le
+under-three-quarters = (tt, tt, tt)
+
+under-254 : Under (ofInt binary32 (negsuc 253)) false false
+unfolding ofInt add sub mul div le
+under-254 = (tt, tt, tt)
+
+under-weighed : T (finite (neg (hundredths 1365))) × T (le (neg (hundredths 1365)) (leastOf false false))
+unfolding ofInt neg add sub mul div le
+under-weighed = (tt, tt)
+
+module _ (context : CraftContext) (state : CraftState) where
+  -- the score is the share of the steps alone, or, with a quality target, the parts weighed
+  of-either : (P : Float → Type 0) → P (fewerOf (state .step) (context .«step_max»)) → P (weighedOf context state) → P (scoreOf context state)
+  unfolding scoreOf
+  of-either P a b = go (eqb (context .«quality_target») 0)
+    where
+      go : (t : Bool) → P (cond t (fewerOf (state .step) (context .«step_max»)) (weighedOf context state))
+      go true = a
+      go false = b
+
+  is-weighed : 0 < context .«quality_target» → scoreOf context state ≡ weighedOf context state
+  unfolding scoreOf
+  is-weighed aimed = rw (ne-eqb (context .«quality_target») 0 (λ e. omega arith))
 
 module _ (context : CraftContext) (state : CraftState) (given : CraftIn context state) (byte : state .step ≤ stepMost) (top : context .«step_max» ≤ stepMost) where
   module _ (some : 0 < context .«step_max») (finished timely : Bool)
@@ -127,29 +146,20 @@ module _ (context : CraftContext) (state : CraftState) (given : CraftIn context 
           (whole-within (state .cp) (context .«cp_max»))
           steps-within
 
-      -- the score is the share of the steps alone, or the parts weighed
-      of-either : (P : Float → Type 0) → P (fewerOf (state .step) (context .«step_max»)) → P (weighedOf context state) → P (scoreOf context state)
-      unfolding scoreOf
-      of-either P a b = go (eqb (context .«quality_target») 0)
-        where
-          go : (t : Bool) → P (cond t (fewerOf (state .step) (context .«step_max»)) (weighedOf context state))
-          go true = a
-          go false = b
-
       score-finite : T (finite (scoreOf context state))
-      score-finite = of-either (λ x. T (finite x)) (within-finite steps-within) (within-finite weighed-within)
+      score-finite = of-either context state (λ x. T (finite x)) (within-finite steps-within) (within-finite weighed-within)
 
       score-to : T (le (scoreOf context state) greatestScore)
       score-to =
-          of-either (λ x. T (le x greatestScore))
+          of-either context state (λ x. T (le x greatestScore))
           (le-through _ _ greatestScore (within-finite steps-within) (high-finite steps-within) greatest-finite (steps-within .to) steps-below-greatest)
           (subst (λ (x : Float). T (le (weighedOf context state) x)) full-is-greatest (weighed-within .to))
 
-      score-from : (lo : Float) → T (finite lo) → T (le lo (fewerOf (latest timely) 1)) → T (le lo (leastOf finished timely)) → T (le lo (scoreOf context state))
-      score-from lo p a b =
-          of-either (λ x. T (le lo x))
-          (le-through lo _ _ p (low-finite steps-within) (within-finite steps-within) a (steps-within .from))
-          (le-through lo _ _ p (low-finite weighed-within) (within-finite weighed-within) b (weighed-within .from))
+      score-from : (lo : Float) → Under lo finished timely → T (le lo (scoreOf context state))
+      score-from lo u =
+          of-either context state (λ x. T (le lo x))
+          (le-through lo _ _ (u .0) (low-finite steps-within) (within-finite steps-within) (u .1) (steps-within .from))
+          (le-through lo _ _ (u .0) (low-finite weighed-within) (within-finite weighed-within) (u .2) (weighed-within .from))
 
   -- ---- THE theorems, of a single state
 
@@ -170,15 +180,24 @@ module _ (context : CraftContext) (state : CraftState) (given : CraftIn context 
       either-way (λ x. T (lt x one)) nothing-below-one
       (λ some. lt-after (scoreOf context state) greatestScore one (score-finite some false false absurd absurd) greatest-finite tt score-most greatest-below-one)
 
-  module _ (some : 0 < context .«step_max») (early : state .step ≤ context .«step_max») where
-    pub score-least : T (le minusOne (scoreOf context state))
-    unfolding ofInt
-    score-least = score-from some false true absurd (λ t. early) minusOne tt minus-one-below-steps minus-one-below-all
+  module _ (some : 0 < context .«step_max») where
+    module _ (early : state .step ≤ context .«step_max») where
+      pub score-least : T (le minusOne (scoreOf context state))
+      score-least = score-from some false true absurd (λ t. early) minusOne under-one
 
-    -- of a finished craft
-    pub finished-least : context .«progress_target» ≤ state .progress → T (le leastFinished (scoreOf context state))
-    unfolding ofInt neg div
-    finished-least done = score-from some true true (λ t. done) (λ t. early) leastFinished tt least-finished-below-steps least-finished-below-all
+      -- -0.75 where the craft is finished
+      pub finished-least : context .«progress_target» ≤ state .progress → T (le (neg (hundredths 75)) (scoreOf context state))
+      finished-least done = score-from some true true (λ t. done) (λ t. early) (neg (hundredths 75)) under-three-quarters
+
+    -- past step_max: -254, and -13.65 where there is a quality target
+    pub score-lowest : T (le (ofInt binary32 (negsuc 253)) (scoreOf context state))
+    score-lowest = score-from some false false absurd absurd (ofInt binary32 (negsuc 253)) under-254
+
+    pub weighed-lowest : 0 < context .«quality_target» → T (le (neg (hundredths 1365)) (scoreOf context state))
+    weighed-lowest aimed =
+        let w = weighed-within some false false absurd absurd in
+        rw (is-weighed context state aimed)
+        (le-through (neg (hundredths 1365)) _ _ (under-weighed .0) (low-finite w) (within-finite w) (under-weighed .1) (w .from))
 
 -- ---- a state that a craft came to: what the bounds rest on, and every legal action keeps
 

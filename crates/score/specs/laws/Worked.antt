@@ -74,6 +74,16 @@ late : toBits binary32 (scoreOf (craft 8 200 0 (pos 40) 100) (state 9 300 0 (pos
 unfolding scoreOf toBits ofInt sub div
 late = refl
 
+-- as far below as it goes while step_max is above 0: step 255 of 1, durability -19 of 1, all else none; -13.65
+late-weighed : toBits binary32 (scoreOf (craft 1 1000 1000 (pos 1) 100) (state 255 0 0 (negsuc 18) 0)) ≡ 0xc15a_6666
+unfolding scoreOf weighedOf toBits ofInt add sub mul div lt
+late-weighed = refl
+
+-- and without a quality target; -254
+late-alone : toBits binary32 (scoreOf (craft 1 1000 0 (pos 1) 100) (state 255 0 0 (negsuc 18) 0)) ≡ 0xc37e_0000
+unfolding scoreOf toBits ofInt sub div
+late-alone = refl
+
 -- step_max 0: minus infinity
 no-steps : toBits binary32 (scoreOf (craft 0 200 10 (pos 40) 100) (state 4 300 5 (pos 20) 82)) ≡ 0xff80_0000
 unfolding scoreOf weighedOf toBits ofInt add sub mul div lt
