@@ -7,7 +7,7 @@ use lib.Ieee.{Float, binary32, ofInt, add, mul, lt, le}
 use Rattle.laws.specs.Floats.{one}
 use Rattle.craft_context.specs.declared.context.CraftContext.{CraftContext}
 use Rattle.craft_state.specs.Limits.{stepLeast, stepMost}
-use Rattle.score.specs.Score.{progressBonus, qualityBonus, durabilityBonus, cpBonus, fewerStepsBonus, fewerOf}
+use Rattle.score.specs.Score.{progressBonus, qualityBonus, durabilityBonus, cpBonus, fewerStepsBonus, partOf, fewerOf}
 use Rattle.score.specs.declared.result.CraftResult.{CraftResult}
 use Rattle.score.specs.declared.result.CraftResult.the-variants as R
 
@@ -15,10 +15,13 @@ abbrev pub minusOne : Float
 minusOne = ofInt binary32 (negsuc 0)
 
 -- the greatest score, 0.9998039: each part full, at the first of 255 steps
+abbrev fullOf : Float → Float
+fullOf bonus = partOf bonus one one
+
 abbrev pub greatestScore : Float
 greatestScore =
     add binary32
-    (add binary32 (add binary32 (add binary32 progressBonus qualityBonus) durabilityBonus) cpBonus)
+    (add binary32 (add binary32 (add binary32 (fullOf progressBonus) (fullOf qualityBonus)) (fullOf durabilityBonus)) (fullOf cpBonus))
     (mul binary32 fewerStepsBonus (fewerOf stepLeast stepMost))
 
 -- below 1; and at least -1 where step_max is above 0, as it is minus infinity where that is 0

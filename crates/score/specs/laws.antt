@@ -1,4 +1,4 @@
-pub mod Score
 pub mod Shares
+pub mod Score
 pub mod Bounds
 pub mod Worked

@@ -1,4 +1,4 @@
--- What is no NaN: a bounded float, and a sum with minus infinity, to which a number over zero leads.
+-- What is no NaN: a finite float, and a sum with minus infinity, to which a number over zero leads.
 -- Assumes nothing.
 use mathlib.Core.Path.{_≡_, refl, subst}
 use mathlib.Core.Bool.{true, false, not}
@@ -10,19 +10,23 @@ use lib.IntN.{pos}
 use lib.Ieee.{Float, nan, inf, fin, Format, up, down, add, div, isNan}
 use lib.Ieee.Fits.{down-pos}
 use lib.Ieee.Exact.{HasValue}
-use Rattle.laws.specs.laws.Small.{Small}
+use lib.Ieee.Scale.{finite}
+use Rattle.laws.specs.laws.Small.{Small, small-finite}
+
+pub finite-no-nan : (x : Float) → T (finite x) → T (not (isNan x))
+unfolding isNan
+finite-no-nan nan p = p
+finite-no-nan (inf s) p = tt
+finite-no-nan (fin s m e) p = tt
 
 pub small-no-nan : (x : Float) (b : ℕ) → Small x b → T (not (isNan x))
-unfolding isNan
-small-no-nan nan b p = p
-small-no-nan (inf s) b p = tt
-small-no-nan (fin s m e) b p = tt
+small-no-nan x b p = finite-no-nan x (small-finite x b p)
 
-pub add-minus-inf : (f : Format) (x : Float) (b : ℕ) → Small x b → add f x (inf true) ≡ inf true
+pub add-minus-inf : (f : Format) (x : Float) → T (finite x) → add f x (inf true) ≡ inf true
 unfolding add
-add-minus-inf f nan b p = absurd p
-add-minus-inf f (inf s) b p = absurd p
-add-minus-inf f (fin s m e) b p = refl
+add-minus-inf f nan p = absurd p
+add-minus-inf f (inf s) p = absurd p
+add-minus-inf f (fin s m e) p = refl
 
 -- a whole number above 0, over zero
 pub over-zero : (f : Format) (x : Float) (n : ℕ) → 0 < n → HasValue x false n 1 → div f x (fin false 0 (pos 0)) ≡ inf false

@@ -8,14 +8,14 @@ use native.Mathlib.Nat.{mul-assoc, mul-comm, mul-right-comm, mul-mul-mul-comm, m
 use native.Mathlib.Nat.{mul-le-mul, mul-le-mul-right, mul-lt-mul-of-pos-right, le-of-mul-le-mul-right}
 use native.Mathlib.Omega.{arith}
 use lib.Dec.{T, ltb, eqb, ltb→lt, lt→ltb, eqb→eq, eqb·suc-zero}
-use lib.IntN.{ℤ, pos, negsuc}
+use lib.IntN.{ℤ, pos}
 use lib.Pow.{pow-pos}
 use lib.Ieee.{Float, nan, inf, fin, Format, prec, emax, low, up, down, unlike, odd, units, round, sum, add, sub, neg, mul, div, lt, eq, le, ofInt, toUnsigned}
 use lib.Ieee.Fits.{round-is, up-pos, down-pos}
 use lib.Ieee.Exact.{HasValue}
 use lib.Ieee.Order.{round-mono, kept, drop}
 use lib.Ieee.Back.{round-whole}
-use Rattle.laws.specs.laws.Tests.{or-left}
+use lib.Ieee.Scale.{finite}
 use Rattle.laws.specs.laws.Plus.{Plus, plus-round}
 
 abbrev pub Small : Float → ℕ → Type 0
@@ -27,6 +27,11 @@ pub small-more : (x : Float) (b c : ℕ) → b ≤ c → Small x b → Small x c
 small-more nan b c h p = p
 small-more (inf s) b c h p = p
 small-more (fin s m e) b c h p = le-trans p (mul-le-mul-right (down e) h)
+
+pub small-finite : (x : Float) (b : ℕ) → Small x b → T (finite x)
+small-finite nan b p = p
+small-finite (inf s) b p = p
+small-finite (fin s m e) b p = tt
 
 -- ---- rounding
 
@@ -56,10 +61,6 @@ under-whole (fin false m e) (fin false n d) b p w h =
     let cross : m * up e * down d ≤ n * up d * down e = or-le (m * up e * down d) (n * up d * down e) _ h in
     le-of-mul-le-mul-right (le-trans cross (le-of-eq (ap (λ (z : ℕ). z * down e) y-is ∙ mul-right-comm b (down d) (down e)))) (down-pos d)
 
-pub below-whole : (x y : Float) (b : ℕ) → Plus x → HasValue y false b 1 → T (lt x y) → Small x b
-unfolding le
-below-whole x y b p w h = under-whole x y b p w (or-left (lt x y) (eq x y) h)
-
 -- the size does not turn on the sign
 either-sign : (f : Format) (s : Bool) (q k b : ℕ) → Small (units f false q k) b → Small (units f s q k) b
 unfolding units odd
@@ -85,10 +86,6 @@ round-small f s a c b C B h =
 pub of-nat-small : (f : Format) (n b : ℕ) → n ≤ b → b ≤ 2 ^ prec f → Small (ofInt f (pos n)) b
 unfolding ofInt
 of-nat-small f n b h B = round-small f false n 1 b (pow-pos 0) B (le-trans h (le-of-eq (sym (mul-one b))))
-
-pub of-neg-small : (f : Format) (n b : ℕ) → n < b → b ≤ 2 ^ prec f → Small (ofInt f (negsuc n)) b
-unfolding ofInt
-of-neg-small f n b h B = round-small f true (suc n) 1 b (pow-pos 0) B (le-trans h (le-of-eq (sym (mul-one b))))
 
 pub of-nat-value : (f : Format) (n : ℕ) → n ≤ 2 ^ prec f → HasValue (ofInt f (pos n)) false n 1
 unfolding ofInt

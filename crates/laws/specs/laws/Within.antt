@@ -7,7 +7,7 @@ use lib.Dec.{T}
 use lib.Ieee.{Float, nan, inf, fin, Format, prec, neg, add, sub, mul, le}
 use lib.Ieee.Scale.{finite}
 use Rattle.laws.specs.laws.Plus.{Plus}
-use Rattle.laws.specs.laws.Small.{Small, add-small, sub-small, mul-small}
+use Rattle.laws.specs.laws.Small.{Small, small-finite, add-small, sub-small, mul-small}
 use Rattle.laws.specs.laws.Order.{le-same}
 use Rattle.laws.specs.laws.Monotone.{neg-down, add-up, mul-up}
 
@@ -16,11 +16,6 @@ pub record Within (b : ℕ) (lo x hi : Float) : Type 0 where
   pub high : Small hi b
   pub from : T (le lo x)
   pub to : T (le x hi)
-
-pub small-finite : (x : Float) (b : ℕ) → Small x b → T (finite x)
-small-finite nan b p = p
-small-finite (inf s) b p = p
-small-finite (fin s m e) b p = tt
 
 neg-finite : (x : Float) → T (finite x) → T (finite (neg x))
 unfolding neg

@@ -10,19 +10,18 @@ use lib.Dec.{T, eqb, leb, lit≤}
 use lib.IntN.{pos, negsuc}
 use lib.Signed.{leZ}
 use borrow.Author.Tests.{ne-eqb}
-use lib.Ieee.{Float, inf, binary32, ofBits, ofInt, toBits, neg, add, sub, mul, div, lt, le}
+use lib.Ieee.{Float, inf, binary32, ofInt, toBits, neg, add, sub, mul, div, lt, le}
 use lib.Ieee.Scale.{finite}
 use Rattle.laws.specs.Bits.{has}
-use Rattle.laws.specs.Floats.{float, hundredths, one}
-use Rattle.laws.specs.laws.Floats.{fifth-bits, sixty-five-bits, twentieth-bits}
+use Rattle.laws.specs.Floats.{hundredths, one}
 use Rattle.laws.specs.laws.Order.{le-through, lt-after}
-use Rattle.laws.specs.laws.Within.{Within, low-finite, high-finite, within-finite}
+use Rattle.laws.specs.laws.Within.{low-finite, high-finite, within-finite}
 use Rattle.action.specs.Actions as A
 use Rattle.action.specs.Bounds.{Rows, RowsIn}
 use Rattle.craft_context.specs.declared.context.CraftContext.{CraftContext}
 use Rattle.craft_context.specs.Limits.{ContextIn}
 use Rattle.craft_state.specs.declared.state.CraftState.{CraftState}
-use Rattle.craft_state.specs.Limits.{stepLeast, stepMost}
+use Rattle.craft_state.specs.Limits.{stepMost}
 use Rattle.craft_state.specs.Inside.{CraftIn}
 use Rattle.craft_state.specs.laws.Inside.{start-in}
 use Rattle.craft_state.specs.Start.{startOf}
@@ -31,44 +30,28 @@ use Rattle.step.specs.laws.Step.{execute-step}
 use Rattle.moves.specs.declared.mode.Mode.{Mode}
 use Rattle.moves.specs.Moves.{movesBy}
 use Rattle.moves.specs.laws.Moves.{legal-known, legal-playable, legal-keeps}
-use Rattle.score.specs.Score.{progressBonus, qualityBonus, durabilityBonus, cappedOf, fewerOf, weighedOf, scoreOf}
+use Rattle.score.specs.Score.{cappedOf, weighedOf, scoreOf}
 use Rattle.score.specs.Result.{judgedBy}
 use Rattle.score.specs.Bounds.{minusOne, greatestScore, ScoreBounds, ScoreIsBounded}
 use Rattle.score.specs.declared.result.CraftResult.the-variants as R
-use Rattle.score.specs.laws.Score.{score-minus-inf}
-use Rattle.score.specs.laws.Shares.{latest, leastShare, weigh, fewer-within, whole-within, full-within, durability-within, weigh-within}
+use Rattle.score.specs.laws.Shares.{weigh}
+use Rattle.score.specs.laws.Score.{leastFour, leastSteps, fullFour, fullSteps, of-either, steps-within, weighed-within, score-finite, score-minus-inf}
 
 -- ---- the bounds, worked out
 
--- at the least: progress full where the craft is finished, all else none, and durability -19 of 1
-abbrev leastOf : Bool → Bool → Float
-leastOf finished timely = weigh (cond finished one (float 0)) (float 0) leastShare (float 0) (fewerOf (latest timely) 1)
+full-quotient : cappedOf (div binary32 one one) ≡ one
+unfolding ofInt div lt
+full-quotient = refl
 
--- a full share is worth the bonus
-abbrev Whole : Float → Type 0
-Whole bonus = mul binary32 bonus one ≡ bonus
-
-whole-fifth : Whole progressBonus
-unfolding ofInt ofBits mul
-whole-fifth = subst Whole fifth-bits refl
-
-whole-sixty-five : Whole qualityBonus
-unfolding ofInt ofBits mul
-whole-sixty-five = subst Whole sixty-five-bits refl
-
-whole-twentieth : Whole durabilityBonus
-unfolding ofInt ofBits mul
-whole-twentieth = subst Whole twentieth-bits refl
-
-full-is-greatest : weigh one one one one (fewerOf stepLeast stepMost) ≡ greatestScore
-full-is-greatest = rw (whole-fifth, whole-sixty-five, whole-twentieth)
+full-is-greatest : weigh fullFour fullSteps ≡ greatestScore
+full-is-greatest = rw full-quotient
 
 pub greatest-bits : toBits binary32 greatestScore ≡ 0x3f7f_f326
-unfolding toBits ofInt add sub mul div
+unfolding toBits ofInt add sub mul div lt
 greatest-bits = refl
 
 greatest-finite : T (finite greatestScore)
-unfolding ofInt add sub mul div
+unfolding ofInt add sub mul div lt
 greatest-finite = tt
 
 -- THE number of the theorem: what the bonuses come to is below 1
@@ -76,21 +59,21 @@ greatest-below-one : T (lt greatestScore one)
 unfolding ofInt add sub mul div lt
 greatest-below-one = tt
 
-nothing-below-greatest : T (le (inf true) greatestScore)
-unfolding ofInt add sub mul div le
-nothing-below-greatest = tt
-
-nothing-below-one : T (lt (inf true) one)
-unfolding ofInt lt
-nothing-below-one = tt
-
-steps-below-greatest : T (le (fewerOf stepLeast stepMost) greatestScore)
-unfolding ofInt add sub mul div le
+steps-below-greatest : T (le fullSteps greatestScore)
+unfolding ofInt add sub mul div lt le
 steps-below-greatest = tt
 
--- at most the least of both, the steps alone and the parts weighed
+inf-below-greatest : T (le (inf true) greatestScore)
+unfolding ofInt add sub mul div lt le
+inf-below-greatest = tt
+
+inf-below-one : T (lt (inf true) one)
+unfolding ofInt lt
+inf-below-one = tt
+
+-- at most both, the steps alone and the parts weighed, at their least
 abbrev Under : Float → Bool → Bool → Type 0
-Under lo finished timely = T (finite lo) × T (le lo (fewerOf (latest timely) 1)) × T (le lo (leastOf finished timely))
+Under lo finished timely = T (finite lo) × T (le lo (leastSteps timely)) × T (le lo (weigh (leastFour finished) (leastSteps timely)))
 
 under-one : Under minusOne false true
 unfolding ofInt add sub mul div le
@@ -104,99 +87,64 @@ under-254 : Under (ofInt binary32 (negsuc 253)) false false
 unfolding ofInt add sub mul div le
 under-254 = (tt, tt, tt)
 
-under-weighed : T (finite (neg (hundredths 1365))) × T (le (neg (hundredths 1365)) (leastOf false false))
+under-weighed : T (finite (neg (hundredths 1365))) × T (le (neg (hundredths 1365)) (weigh (leastFour false) (leastSteps false)))
 unfolding ofInt neg add sub mul div le
 under-weighed = (tt, tt)
 
-module _ (context : CraftContext) (state : CraftState) where
-  -- the score is the share of the steps alone, or, with a quality target, the parts weighed
-  of-either : (P : Float → Type 0) → P (fewerOf (state .step) (context .«step_max»)) → P (weighedOf context state) → P (scoreOf context state)
-  unfolding scoreOf
-  of-either P a b = go (eqb (context .«quality_target») 0)
-    where
-      go : (t : Bool) → P (cond t (fewerOf (state .step) (context .«step_max»)) (weighedOf context state))
-      go true = a
-      go false = b
-
-  is-weighed : 0 < context .«quality_target» → scoreOf context state ≡ weighedOf context state
-  unfolding scoreOf
-  is-weighed aimed = rw (ne-eqb (context .«quality_target») 0 (λ e. omega arith))
+-- ---- THE theorems, of a single state
 
 module _ (context : CraftContext) (state : CraftState) (given : CraftIn context state) (byte : state .step ≤ stepMost) (top : context .«step_max» ≤ stepMost) where
-  module _ (some : 0 < context .«step_max») (finished timely : Bool)
-      (done : T finished → context .«progress_target» ≤ state .progress) (early : T timely → state .step ≤ context .«step_max»)
-    where
-      progress-within : Within 1 (cond finished one (float 0)) (cappedOf (div binary32 (float (state .progress)) (float (context .«progress_target»)))) one
-      progress-within = go finished done
-        where
-          go : (t : Bool) → (T t → context .«progress_target» ≤ state .progress)
-              → Within 1 (cond t one (float 0)) (cappedOf (div binary32 (float (state .progress)) (float (context .«progress_target»)))) one
-          go true h = full-within (state .progress) (context .«progress_target») (given .state .progress) (h tt)
-          go false h = whole-within (state .progress) (context .«progress_target»)
-
-      steps-within : Within 256 (fewerOf (latest timely) 1) (fewerOf (state .step) (context .«step_max»)) (fewerOf stepLeast stepMost)
-      steps-within = fewer-within (state .step) (context .«step_max») (given .state .step) byte some top timely early
-
-      weighed-within : Within 278 (leastOf finished timely) (weighedOf context state) (weigh one one one one (fewerOf stepLeast stepMost))
-      unfolding weighedOf
-      weighed-within =
-          weigh-within progress-within
-          (whole-within (state .quality) (context .«quality_target»))
-          (durability-within (state .durability) (context .«durability_max») (given .state .durability))
-          (whole-within (state .cp) (context .«cp_max»))
-          steps-within
-
-      score-finite : T (finite (scoreOf context state))
-      score-finite = of-either context state (λ x. T (finite x)) (within-finite steps-within) (within-finite weighed-within)
-
-      score-to : T (le (scoreOf context state) greatestScore)
-      score-to =
-          of-either context state (λ x. T (le x greatestScore))
-          (le-through _ _ greatestScore (within-finite steps-within) (high-finite steps-within) greatest-finite (steps-within .to) steps-below-greatest)
-          (subst (λ (x : Float). T (le (weighedOf context state) x)) full-is-greatest (weighed-within .to))
-
-      score-from : (lo : Float) → Under lo finished timely → T (le lo (scoreOf context state))
-      score-from lo u =
-          of-either context state (λ x. T (le lo x))
-          (le-through lo _ _ (u .0) (low-finite steps-within) (within-finite steps-within) (u .1) (steps-within .from))
-          (le-through lo _ _ (u .0) (low-finite weighed-within) (within-finite weighed-within) (u .2) (weighed-within .from))
-
-  -- ---- THE theorems, of a single state
-
   -- where step_max is 0 the score is minus infinity
-  either-way : (P : Float → Type 0) → P (inf true) → (0 < context .«step_max» → P (scoreOf context state)) → P (scoreOf context state)
-  either-way P none some = go (context .«step_max») refl
+  by-steps : (P : Float → Type 0) → P (inf true) → (0 < context .«step_max» → P (scoreOf context state)) → P (scoreOf context state)
+  by-steps P none some = go (context .«step_max») refl
     where
       go : (most : ℕ) → context .«step_max» ≡ most → P (scoreOf context state)
       go zero e = rw (score-minus-inf context state given byte e) none
       go (suc m) e = some (rw e (zero-lt-suc m))
 
   pub score-most : T (le (scoreOf context state) greatestScore)
-  score-most = either-way (λ x. T (le x greatestScore)) nothing-below-greatest (λ some. score-to some false false absurd absurd)
+  score-most = by-steps (λ x. T (le x greatestScore)) inf-below-greatest finite-most
+    where
+      finite-most : 0 < context .«step_max» → T (le (scoreOf context state) greatestScore)
+      finite-most some =
+          let steps = steps-within context state given byte top some false absurd in
+          of-either context state (λ x. T (le x greatestScore))
+          (le-through _ fullSteps greatestScore (within-finite steps) (high-finite steps) greatest-finite (steps .to) steps-below-greatest)
+          (subst (λ (x : Float). T (le (weighedOf context state) x)) full-is-greatest (weighed-within context state given byte top some false absurd false absurd .to))
 
   pub score-below-one : T (lt (scoreOf context state) one)
   unfolding ofInt
   score-below-one =
-      either-way (λ x. T (lt x one)) nothing-below-one
-      (λ some. lt-after (scoreOf context state) greatestScore one (score-finite some false false absurd absurd) greatest-finite tt score-most greatest-below-one)
+      by-steps (λ x. T (lt x one)) inf-below-one
+      (λ some. lt-after (scoreOf context state) greatestScore one (score-finite context state given byte top some) greatest-finite tt score-most greatest-below-one)
 
   module _ (some : 0 < context .«step_max») where
+    score-from : (lo : Float) (finished timely : Bool) → (T finished → context .«progress_target» ≤ state .progress)
+        → (T timely → state .step ≤ context .«step_max») → Under lo finished timely → T (le lo (scoreOf context state))
+    score-from lo finished timely done early under =
+        let steps = steps-within context state given byte top some timely early in
+        let weighed = weighed-within context state given byte top some timely early finished done in
+        of-either context state (λ x. T (le lo x))
+        (le-through lo _ _ (under .0) (low-finite steps) (within-finite steps) (under .1) (steps .from))
+        (le-through lo _ _ (under .0) (low-finite weighed) (within-finite weighed) (under .2) (weighed .from))
+
     module _ (early : state .step ≤ context .«step_max») where
       pub score-least : T (le minusOne (scoreOf context state))
-      score-least = score-from some false true absurd (λ t. early) minusOne under-one
+      score-least = score-from minusOne false true absurd (λ t. early) under-one
 
       -- -0.75 where the craft is finished
       pub finished-least : context .«progress_target» ≤ state .progress → T (le (neg (hundredths 75)) (scoreOf context state))
-      finished-least done = score-from some true true (λ t. done) (λ t. early) (neg (hundredths 75)) under-three-quarters
+      finished-least done = score-from (neg (hundredths 75)) true true (λ t. done) (λ t. early) under-three-quarters
 
-    -- past step_max: -254, and -13.65 where there is a quality target
+    -- past step_max -254, and -13.65 where there is a quality target
     pub score-lowest : T (le (ofInt binary32 (negsuc 253)) (scoreOf context state))
-    score-lowest = score-from some false false absurd absurd (ofInt binary32 (negsuc 253)) under-254
+    score-lowest = score-from (ofInt binary32 (negsuc 253)) false false absurd absurd under-254
 
     pub weighed-lowest : 0 < context .«quality_target» → T (le (neg (hundredths 1365)) (scoreOf context state))
+    unfolding scoreOf
     weighed-lowest aimed =
-        let w = weighed-within some false false absurd absurd in
-        rw (is-weighed context state aimed)
+        let w = weighed-within context state given byte top some false absurd false absurd in
+        rw (ne-eqb (context .«quality_target») 0 (λ e. omega arith))
         (le-through (neg (hundredths 1365)) _ _ (under-weighed .0) (low-finite w) (within-finite w) (under-weighed .1) (w .from))
 
 -- ---- a state that a craft came to: what the bounds rest on, and every legal action keeps

@@ -20,7 +20,32 @@ use Rattle.craft_state.specs.Limits.{stepLeast, stepMost, durabilityLeast}
 use Rattle.craft_state.specs.Inside.{DurabilityIn}
 use Rattle.craft_state.specs.laws.Inside.{raised}
 use Rattle.score.specs.Score.{progressBonus, qualityBonus, durabilityBonus, cpBonus, fewerStepsBonus, cappedOf, fewerOf}
-use Rattle.score.specs.laws.Score.{one-small, progress-small, quality-small, durability-small, cp-small, fewer-steps-small}
+
+-- ---- one and the bonuses are at most 1
+
+one-small : Small one 1
+unfolding ofInt
+one-small = lit≤ tt
+
+progress-small : Small progressBonus 1
+unfolding ofInt div
+progress-small = lit≤ tt
+
+quality-small : Small qualityBonus 1
+unfolding ofInt div
+quality-small = lit≤ tt
+
+durability-small : Small durabilityBonus 1
+unfolding ofInt div
+durability-small = lit≤ tt
+
+cp-small : Small cpBonus 1
+unfolding ofInt div
+cp-small = lit≤ tt
+
+fewer-steps-small : Small fewerStepsBonus 1
+unfolding ofInt div
+fewer-steps-small = lit≤ tt
 
 -- ---- the share of the steps that is left: at most what the first of 255 steps leaves, and in time at least none
 
@@ -50,6 +75,12 @@ module _ (step most : ℕ) (started : stepLeast ≤ step) (byte : step ≤ stepM
 
 -- ---- a quotient under the cap
 
+abbrev pub shareOf : ℕ → ℕ → Float
+shareOf value target = cappedOf (div binary32 (float value) (float target))
+
+abbrev pub durabilityShare : ℤ → ℤ → Float
+durabilityShare d most = cappedOf (div binary32 (ofInt binary32 d) (ofInt binary32 most))
+
 capped-within : (b : ℕ) (lo q : Float) → 1 ≤ b → Small lo b → T (le lo one) → (T (lt q one) → T (le lo q)) → Within b lo (cappedOf q) one
 unfolding ofInt
 capped-within b lo q B p h k = go (lt q one) (lt-le q one) k
@@ -59,7 +90,7 @@ capped-within b lo q B p h k = go (lt q one) (lt-le q one) k
     go false a c = record { low = p; high = small-more one 1 b B one-small; from = h; to = le-same one tt }
 
 -- of whole numbers it is at least 0
-pub whole-within : (value target : ℕ) → Within 1 (float 0) (cappedOf (div binary32 (float value) (float target))) one
+pub whole-within : (value target : ℕ) → Within 1 (float 0) (shareOf value target) one
 unfolding ofInt le
 whole-within value target =
     let q = div binary32 (float value) (float target) in
@@ -67,12 +98,12 @@ whole-within value target =
     (plus-least q one (plus-div binary32 (float value) (float target) (plus-of-nat binary32 value) (plus-of-nat binary32 target)))
 
 -- and 1 where the value is at its target
-over-nothing : (value : ℕ) → value ≤ amountMost → cappedOf (div binary32 (float value) (float 0)) ≡ one
+over-nothing : (value : ℕ) → value ≤ amountMost → shareOf value 0 ≡ one
 unfolding ofInt div lt
 over-nothing zero h = refl
 over-nothing (suc v) h = ap cappedOf (over-zero binary32 (float (suc v)) (suc v) (zero-lt-suc v) (of-nat-value binary32 (suc v) h))
 
-pub full-within : (value target : ℕ) → value ≤ amountMost → target ≤ value → Within 1 one (cappedOf (div binary32 (float value) (float target))) one
+pub full-within : (value target : ℕ) → value ≤ amountMost → target ≤ value → Within 1 one (shareOf value target) one
 unfolding ofInt div
 full-within value zero h l = rw (over-nothing value h) (within-same one 1 one-small)
 full-within value (suc t) h l =
@@ -83,7 +114,7 @@ full-within value (suc t) h l =
 abbrev pub leastShare : Float
 leastShare = div binary32 (ofInt binary32 durabilityLeast) one
 
-pub durability-within : (d most : ℤ) → DurabilityIn d most → Within 19 leastShare (cappedOf (div binary32 (ofInt binary32 d) (ofInt binary32 most))) one
+pub durability-within : (d most : ℤ) → DurabilityIn d most → Within 19 leastShare (durabilityShare d most) one
 unfolding ofInt div le
 durability-within d (negsuc n) h = absurd (none n (raised h .above))
   where
@@ -100,36 +131,37 @@ durability-within (negsuc a) (pos n) h =
     (λ k.
     quotient-up binary32 durabilityLeast 1 (negsuc a) n (lit≤ tt) (omega (arith, r .above)) (lit≤ tt) (lit≤ tt) (omega (arith, r .from)) (omega (arith, r .top)) (omega (arith, r .from, r .above)))
 
--- ---- five shares, weighed by their bonuses and added from left to right
+-- ---- the shares, weighed by their bonuses and added from left to right
 
-abbrev pub weigh : Float → Float → Float → Float → Float → Float
-weigh progress quality durability cp fewer =
+-- those that the steps do not touch
+abbrev pub weighFour : Float → Float → Float → Float → Float
+weighFour progress quality durability cp =
     add binary32
-    (add binary32
     (add binary32
     (add binary32 (mul binary32 progressBonus progress) (mul binary32 qualityBonus quality))
     (mul binary32 durabilityBonus durability))
-    (mul binary32 cpBonus cp))
-    (mul binary32 fewerStepsBonus fewer)
+    (mul binary32 cpBonus cp)
+
+abbrev pub weigh : Float → Float → Float
+weigh four fewer = add binary32 four (mul binary32 fewerStepsBonus fewer)
 
 -- a bonus is not negative
 plus-bonus : (n : ℕ) → Plus (hundredths n)
 plus-bonus n = plus-div binary32 (float n) (float 100) (plus-of-nat binary32 n) (plus-of-nat binary32 100)
 
-pub weigh-within : {p₀ p p₁ q₀ q q₁ d₀ d d₁ c₀ c c₁ f₀ f f₁ : Float}
-    → Within 1 p₀ p p₁ → Within 1 q₀ q q₁ → Within 19 d₀ d d₁ → Within 1 c₀ c c₁ → Within 256 f₀ f f₁
-    → Within 278 (weigh p₀ q₀ d₀ c₀ f₀) (weigh p q d c f) (weigh p₁ q₁ d₁ c₁ f₁)
-weigh-within p q d c f =
+pub four-within : {p₀ p p₁ q₀ q q₁ d₀ d d₁ c₀ c c₁ : Float} → Within 1 p₀ p p₁ → Within 1 q₀ q q₁ → Within 19 d₀ d d₁ → Within 1 c₀ c c₁
+    → Within 22 (weighFour p₀ q₀ d₀ c₀) (weighFour p q d c) (weighFour p₁ q₁ d₁ c₁)
+four-within p q d c =
     add-within binary32
     (add-within binary32
     (add-within binary32
-    (add-within binary32
-    (mul-within binary32 p progressBonus 1 (plus-bonus 20) progress-small (lit≤ tt))
+    (mul-within binary32 p progressBonus 1 (plus-bonus _) progress-small (lit≤ tt))
     (lit≤ tt)
-    (mul-within binary32 q qualityBonus 1 (plus-bonus 65) quality-small (lit≤ tt)))
+    (mul-within binary32 q qualityBonus 1 (plus-bonus _) quality-small (lit≤ tt)))
     (lit≤ tt)
-    (mul-within binary32 d durabilityBonus 1 (plus-bonus 5) durability-small (lit≤ tt)))
+    (mul-within binary32 d durabilityBonus 1 (plus-bonus _) durability-small (lit≤ tt)))
     (lit≤ tt)
-    (mul-within binary32 c cpBonus 1 (plus-bonus 5) cp-small (lit≤ tt)))
-    (lit≤ tt)
-    (mul-within binary32 f fewerStepsBonus 1 (plus-bonus 5) fewer-steps-small (lit≤ tt))
+    (mul-within binary32 c cpBonus 1 (plus-bonus _) cp-small (lit≤ tt))
+
+pub weigh-within : {x₀ x x₁ f₀ f f₁ : Float} → Within 22 x₀ x x₁ → Within 256 f₀ f f₁ → Within 278 (weigh x₀ f₀) (weigh x f) (weigh x₁ f₁)
+weigh-within x f = add-within binary32 x (lit≤ tt) (mul-within binary32 f fewerStepsBonus 1 (plus-bonus _) fewer-steps-small (lit≤ tt))

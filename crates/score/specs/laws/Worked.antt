@@ -74,6 +74,11 @@ late : toBits binary32 (scoreOf (craft 8 200 0 (pos 40) 100) (state 9 300 0 (pos
 unfolding scoreOf toBits ofInt sub div
 late = refl
 
+-- a step of 0, which no state inside the limits has: exactly 1
+step-0 : toBits binary32 (scoreOf (craft 255 0 1000 (pos 40) 200) (state 0 0 1000 (pos 40) 200)) ≡ 0x3f80_0000
+unfolding scoreOf weighedOf toBits ofInt add sub mul div lt
+step-0 = refl
+
 -- as far below as it goes while step_max is above 0: step 255 of 1, durability -19 of 1, all else none; -13.65
 late-weighed : toBits binary32 (scoreOf (craft 1 1000 1000 (pos 1) 100) (state 255 0 0 (negsuc 18) 0)) ≡ 0xc15a_6666
 unfolding scoreOf weighedOf toBits ofInt add sub mul div lt
