@@ -63,7 +63,8 @@ enum {
 /* The places of the numbers that crafty_replay writes. */
 enum {
     CRAFTY_RESULT,              /* how the replay ended, as above */
-    CRAFTY_SCORE,               /* the bits of the score, a 32-bit float; 0 unless finished */
+    CRAFTY_SCORE,               /* the bits of the score, a 32-bit float; 0 unless finished. It is below 1, and at least -1
+                                 * where step_max is above 0; where that is 0 it is minus infinity */
     CRAFTY_EXECUTED,            /* how many actions were executed: the longest leading part that is legal */
     CRAFTY_MOVES,               /* the moves of the state, bit n for action n */
     CRAFTY_STEP,                /* the state where the replay stopped, from here on */

@@ -15,7 +15,7 @@ pub struct Report {
 
 #[derive(Clone, Copy, Debug, PartialEq)]
 pub enum Outcome {
-    /// The score.
+    /// The score: below 1, and at least -1 where step_max is above 0; minus infinity where that is 0.
     Finished(f32),
     DurabilityFailure,
     MaxStepsFailure,
