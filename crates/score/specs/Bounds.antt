@@ -1,28 +1,22 @@
 -- Document 02, E10, "Can a score reach one?": what every finished score of a replay is between, in IEEE 754's order.
 -- Assumes nothing.
-use Prim.Native.Nat.{_<_}
+use Prim.Native.Nat.{ℕ, _<_}
 use lib.Dec.{T}
-use lib.IntN.{negsuc}
-use lib.Ieee.{Float, binary32, ofInt, add, mul, lt, le}
-use Rattle.laws.specs.Floats.{one}
+use lib.Ieee.{Float, lt, le}
+use Rattle.laws.specs.Floats.{one, minusOne}
 use Rattle.craft_context.specs.declared.context.CraftContext.{CraftContext}
 use Rattle.craft_state.specs.Limits.{stepLeast, stepMost}
-use Rattle.score.specs.Score.{progressBonus, qualityBonus, durabilityBonus, cpBonus, fewerStepsBonus, partOf, fewerOf}
+use Rattle.score.specs.Score.{fewerOf, weighFour, weigh}
 use Rattle.score.specs.declared.result.CraftResult.{CraftResult}
 use Rattle.score.specs.declared.result.CraftResult.the-variants as R
 
-abbrev pub minusOne : Float
-minusOne = ofInt binary32 (negsuc 0)
+-- a state inside the limits is at this step or a later one
+abbrev pub firstStep : ℕ
+firstStep = stepLeast
 
--- the greatest score, 0.9998039: each part full, at the first of 255 steps
-abbrev fullOf : Float → Float
-fullOf bonus = partOf bonus one one
-
+-- the greatest score, 0.9998039: each portion full, at the first of 255 steps
 abbrev pub greatestScore : Float
-greatestScore =
-    add binary32
-    (add binary32 (add binary32 (add binary32 (fullOf progressBonus) (fullOf qualityBonus)) (fullOf durabilityBonus)) (fullOf cpBonus))
-    (mul binary32 fewerStepsBonus (fewerOf stepLeast stepMost))
+greatestScore = weigh (weighFour one one one one) (fewerOf firstStep stepMost)
 
 -- below 1; and at least -1 where step_max is above 0, as it is minus infinity where that is 0
 pub record ScoreBounds (c : CraftContext) (score : Float) : Type 0 where

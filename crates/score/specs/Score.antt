@@ -31,25 +31,39 @@ fewerStepsBonus = hundredths 5
 abbrev pub cappedOf : Float → Float
 cappedOf quotient = cond (lt quotient one) quotient one
 
+-- min(1, value / target)
+abbrev pub portionOf : Float → Float → Float
+portionOf value target = cappedOf (div binary32 value target)
+
 abbrev pub partOf : Float → Float → Float → Float
-partOf bonus value target = mul binary32 bonus (cappedOf (div binary32 value target))
+partOf bonus value target = mul binary32 bonus (portionOf value target)
 
 -- 1 - step / step_max
 abbrev pub fewerOf : ℕ → ℕ → Float
 fewerOf step most = sub binary32 one (div binary32 (float step) (float most))
 
--- added from left to right
-unfoldable pub weighedOf : CraftContext → CraftState → Float
-weighedOf context state =
+-- portions times their bonuses, added from left to right
+abbrev pub weighFour : Float → Float → Float → Float → Float
+weighFour progress quality durability cp =
     add binary32
     (add binary32
-    (add binary32
-    (add binary32
-    (partOf progressBonus (float (state .progress)) (float (context .«progress_target»)))
-    (partOf qualityBonus (float (state .quality)) (float (context .«quality_target»))))
-    (partOf durabilityBonus (ofInt binary32 (state .durability)) (ofInt binary32 (context .«durability_max»))))
-    (partOf cpBonus (float (state .cp)) (float (context .«cp_max»))))
-    (mul binary32 fewerStepsBonus (fewerOf (state .step) (context .«step_max»)))
+    (add binary32 (mul binary32 progressBonus progress) (mul binary32 qualityBonus quality))
+    (mul binary32 durabilityBonus durability))
+    (mul binary32 cpBonus cp)
+
+-- and last the share of the steps that is left
+abbrev pub weigh : Float → Float → Float
+weigh four fewer = add binary32 four (mul binary32 fewerStepsBonus fewer)
+
+unfoldable pub weighedOf : CraftContext → CraftState → Float
+weighedOf context state =
+    weigh
+    (weighFour
+    (portionOf (float (state .progress)) (float (context .«progress_target»)))
+    (portionOf (float (state .quality)) (float (context .«quality_target»)))
+    (portionOf (ofInt binary32 (state .durability)) (ofInt binary32 (context .«durability_max»)))
+    (portionOf (float (state .cp)) (float (context .«cp_max»))))
+    (fewerOf (state .step) (context .«step_max»))
 
 -- without a quality target the steps alone count; past step_max either goes far below -1 (`late-weighed` and `late-alone` in laws/Worked.antt)
 unfoldable pub scoreOf : CraftContext → CraftState → Float

@@ -3,21 +3,17 @@
 -- Assumes nothing.
 use mathlib.Core.Bool.{Bool, cond, _&&_}
 use Prim.Native.Nat.{ℕ}
-use lib.IntN.{negsuc}
-use lib.Ieee.{Float, binary32, ofInt, add, lt, le}
-use Rattle.laws.specs.Floats.{float, one}
+use lib.Ieee.{Float, binary32, add, lt, le}
+use Rattle.laws.specs.Floats.{float, one, minusOne}
 use Rattle.refusal.specs.Judge.{Test}
 use Rattle.refusal.specs.declared.Refusal.the-variants.{BadScore}
 use Rattle.action.specs.Known.{actions}
 use Rattle.tree.specs.declared.node.Node.{Node}
 
--- ---- the numbers: +0, -1 and the most visits, as whole numbers
+-- ---- the numbers: +0 and the most visits, as whole numbers
 
 abbrev pub plusZero : Float
 plusZero = float 0
-
-abbrev pub minusOne : Float
-minusOne = ofInt binary32 (negsuc 0)
 
 abbrev pub countMost : ℕ
 countMost = 16777216

@@ -17,16 +17,16 @@ use lib.Ieee.Back.{round-whole}
 use lib.Ieee.Order.{kept, drop, round-mono}
 use lib.Ieee.Scale.{round-same, finite}
 use Rattle.laws.specs.laws.Plus.{Plus}
-use Rattle.laws.specs.laws.Order.{Leq, over, under, Below, over-mul, under-mul, below-le, le-below}
+use Rattle.laws.specs.laws.Order.{Leq, plusBy, minusBy, InOrder, plus-by-mul, minus-by-mul, order-le, le-order}
 
 -- ---- a negation turns the order round
 
-neg-below : (s : Bool) (m : ℕ) (e : ℤ) (t : Bool) (n : ℕ) (d : ℤ) → Below (fin s m e) (fin t n d) → Below (neg (fin t n d)) (neg (fin s m e))
+neg-order : (s : Bool) (m : ℕ) (e : ℤ) (t : Bool) (n : ℕ) (d : ℤ) → InOrder (fin s m e) (fin t n d) → InOrder (neg (fin t n d)) (neg (fin s m e))
 unfolding neg
-neg-below false m e false n d h = omega arith
-neg-below false m e true n d h = omega arith
-neg-below true m e false n d h = omega arith
-neg-below true m e true n d h = omega arith
+neg-order false m e false n d h = omega arith
+neg-order false m e true n d h = omega arith
+neg-order true m e false n d h = omega arith
+neg-order true m e true n d h = omega arith
 
 pub neg-down : (x y : Float) → T (le x y) → T (le (neg y) (neg x))
 unfolding neg le
@@ -42,7 +42,7 @@ neg-down (fin s m e) nan h = absurd h
 neg-down (fin s m e) (inf true) h = absurd h
 neg-down (fin s m e) (inf false) h = tt
 neg-down (fin s m e) (fin t n d) h =
-    below-le (neg (fin t n d)) (neg (fin s m e)) tt tt (neg-below s m e t n d (le-below (fin s m e) (fin t n d) tt tt h))
+    order-le (neg (fin t n d)) (neg (fin s m e)) tt tt (neg-order s m e t n d (le-order (fin s m e) (fin t n d) tt tt h))
 
 -- ---- what is rounded from (p - n) / c: either zero where that is 0
 
@@ -108,12 +108,12 @@ opposite (fin true m e) nan p q = absurd q
 opposite (fin true m e) (inf true) p q = absurd q
 opposite (fin true m e) (inf false) p q = tt
 opposite (fin true m e) (fin true n d) p q = absurd q
-opposite (fin true m e) (fin false n d) p q = below-le (fin true m e) (fin false n d) tt tt (omega arith)
+opposite (fin true m e) (fin false n d) p q = order-le (fin true m e) (fin false n d) tt tt (omega arith)
 
 sub-mul : (p n d : ℕ) → (p - n) * d ≡ p * d - n * d
 sub-mul p n d = mul-comm (p - n) d ∙ mul-sub d p n ∙ rw (mul-comm d p, mul-comm d n)
 
--- the same of fractions whose sign is known
+-- fractions that are not negative, by their sizes
 unsigned : (p n c q m d : ℕ) → n ≤ p → m ≤ q → Leq p n c q m d → (p - n) * d ≤ (q - m) * c
 unsigned p n c q m d i j h = rw (sub-mul p n d, sub-mul q m c) (omega (arith, mul-le-mul-right d i, mul-le-mul-right c j))
 
@@ -161,7 +161,7 @@ module _ (f : Format) (x : Float) (p n c k : ℕ) where
   near-minus : p ≤ n → k ≡ n - p → x ≡ round f true k c → Near f x p n c
   near-minus h e r = inr (h, r ∙ ap (λ (k : ℕ). round f true k c) e)
 
-sum-near : (f : Format) (s : Bool) (a : ℕ) (t : Bool) (b c : ℕ) → Near f (sum f s a t b c) (over s a + over t b) (under s a + under t b) c
+sum-near : (f : Format) (s : Bool) (a : ℕ) (t : Bool) (b c : ℕ) → Near f (sum f s a t b c) (plusBy s a + plusBy t b) (minusBy s a + minusBy t b) c
 unfolding sum
 sum-near f false a false b c = near-plus f _ (a + b) 0 c (a + b) zero-le (omega arith) refl
 sum-near f true a true b c = near-minus f _ 0 (a + b) c (a + b) zero-le (omega arith) refl
@@ -195,17 +195,17 @@ add-up f (fin s m e) (fin s' m' e') (fin t n d) (fin t' n' d') p p' q q' h l =
     (sum-near f s (m * up e * down d) t (n * up d * down e) (down e * down d))
     (sum-near f s' (m' * up e' * down d') t' (n' * up d' * down e') (down e' * down d'))
     (rw (
-      over-mul s (m * up e) (down d),
-      over-mul t (n * up d) (down e),
-      under-mul s' (m' * up e') (down d'),
-      under-mul t' (n' * up d') (down e'),
-      over-mul s' (m' * up e') (down d'),
-      over-mul t' (n' * up d') (down e'),
-      under-mul s (m * up e) (down d),
-      under-mul t (n * up d) (down e),
+      plus-by-mul s (m * up e) (down d),
+      plus-by-mul t (n * up d) (down e),
+      minus-by-mul s' (m' * up e') (down d'),
+      minus-by-mul t' (n' * up d') (down e'),
+      plus-by-mul s' (m' * up e') (down d'),
+      plus-by-mul t' (n' * up d') (down e'),
+      minus-by-mul s (m * up e) (down d),
+      minus-by-mul t (n * up d) (down e),
     )
     (add-leq _ _ (down e) _ _ (down e') _ _ (down d) _ _ (down d')
-    (le-below (fin s m e) (fin s' m' e') tt tt h) (le-below (fin t n d) (fin t' n' d') tt tt l)))
+    (le-order (fin s m e) (fin s' m' e') tt tt h) (le-order (fin t n d) (fin t' n' d') tt tt l)))
 
 -- a product by what is not negative grows with the other factor
 pub mul-up : (f : Format) (b x y : Float) → Plus b → T (finite b) → T (finite x) → T (finite y) → T (le x y) → T (le (mul f b x) (mul f b y))
@@ -220,9 +220,9 @@ mul-up f (fin false k g) (fin s m e) (inf t) P p q r h = absurd r
 mul-up f (fin false k g) (fin s m e) (fin t n d) P p q r h =
     near-mono f _ _ _ _ (down g * down e) _ _ (down g * down d) (mul-pos (down-pos g) (down-pos e)) (mul-pos (down-pos g) (down-pos d))
     (product s (m * up e) (down g * down e)) (product t (n * up d) (down g * down d))
-    (mul-leq (k * up g) (down g) _ _ (down e) _ _ (down d) (le-below (fin s m e) (fin t n d) tt tt h))
+    (mul-leq (k * up g) (down g) _ _ (down e) _ _ (down d) (le-order (fin s m e) (fin t n d) tt tt h))
   where
-    product : (s : Bool) (a c : ℕ) → Near f (round f (unlike false s) (k * up g * a) c) (k * up g * over s a) (k * up g * under s a) c
+    product : (s : Bool) (a c : ℕ) → Near f (round f (unlike false s) (k * up g * a) c) (k * up g * plusBy s a) (k * up g * minusBy s a) c
     product true a c = near-minus f _ (k * up g * 0) (k * up g * a) c (k * up g * a) (omega arith) (omega arith) refl
     product false a c = near-plus f _ (k * up g * a) (k * up g * 0) c (k * up g * a) (omega arith) (omega arith) refl
 

@@ -32,26 +32,26 @@ leq-trans p n c q m d r k e D h l =
 
 -- ---- a finite float is (plus - minus) / den
 
-abbrev pub over : Bool → ℕ → ℕ
-over true a = 0
-over false a = a
+abbrev pub plusBy : Bool → ℕ → ℕ
+plusBy true a = 0
+plusBy false a = a
 
-abbrev pub under : Bool → ℕ → ℕ
-under true a = a
-under false a = 0
+abbrev pub minusBy : Bool → ℕ → ℕ
+minusBy true a = a
+minusBy false a = 0
 
-abbrev plus : Float → ℕ
+abbrev pub plus : Float → ℕ
 plus nan = 0
 plus (inf s) = 0
-plus (fin s m e) = over s (m * up e)
+plus (fin s m e) = plusBy s (m * up e)
 
-abbrev minus : Float → ℕ
+abbrev pub minus : Float → ℕ
 minus nan = 0
 minus (inf s) = 0
-minus (fin s m e) = under s (m * up e)
+minus (fin s m e) = minusBy s (m * up e)
 
-abbrev pub Below : Float → Float → Type 0
-Below x y = Leq (plus x) (minus x) (den x) (plus y) (minus y) (den y)
+abbrev pub InOrder : Float → Float → Type 0
+InOrder x y = Leq (plus x) (minus x) (den x) (plus y) (minus y) (den y)
 
 -- ---- two magnitudes with their signs, as `le` compares them
 
@@ -64,71 +64,71 @@ both-zero a b h =
 less-or-same : (a b : ℕ) (same : Bool) → a ≤ b → (a ≡ b → T same) → T (ltb a b || same)
 less-or-same a b same h e = elim (eq-or-lt-of-le h) [ inl p ↦ or-right (ltb a b) same (e p) | inr l ↦ or-left (ltb a b) same (lt→ltb a b l) ]
 
-signed-le : (s : Bool) (a : ℕ) (t : Bool) (b : ℕ) → over s a + under t b ≤ over t b + under s a → T (below s a t b || level s a t b)
+pub signed-le : (s : Bool) (a : ℕ) (t : Bool) (b : ℕ) → plusBy s a + minusBy t b ≤ plusBy t b + minusBy s a → T (below s a t b || level s a t b)
 signed-le false a false b h = less-or-same a b (eqb a b && true) (omega arith) (λ e. and-i (eqb a b) true (eq→eqb e) tt)
 signed-le false a true b h = both-zero a b (omega arith)
 signed-le true a false b h = less-or-same 0 (a + b) (eqb a b && eqb a 0) zero-le (λ e. both-zero a b (sym e))
 signed-le true a true b h = less-or-same b a (eqb a b && true) (omega arith) (λ e. and-i (eqb a b) true (eq→eqb (sym e)) tt)
 
-le-signed : (s : Bool) (a : ℕ) (t : Bool) (b : ℕ) → T (below s a t b || level s a t b) → over s a + under t b ≤ over t b + under s a
+pub le-signed : (s : Bool) (a : ℕ) (t : Bool) (b : ℕ) → T (below s a t b || level s a t b) → plusBy s a + minusBy t b ≤ plusBy t b + minusBy s a
 le-signed false a false b h = omega (arith, or-le a b true h)
 le-signed false a true b h = omega (arith, eqb→eq a b (and-left (eqb a b) (eqb a 0) h), eqb→eq a 0 (and-right (eqb a b) (eqb a 0) h))
 le-signed true a false b h = omega arith
 le-signed true a true b h =
     elim (or-cases (ltb b a) (eqb a b && true) h) [ inl l ↦ omega (arith, ltb→lt b a l) | inr e ↦ omega (arith, eqb→eq a b (and-left (eqb a b) true e)) ]
 
-signed-lt : (s : Bool) (a : ℕ) (t : Bool) (b : ℕ) → over s a + under t b < over t b + under s a → T (below s a t b)
+signed-lt : (s : Bool) (a : ℕ) (t : Bool) (b : ℕ) → plusBy s a + minusBy t b < plusBy t b + minusBy s a → T (below s a t b)
 signed-lt false a false b h = lt→ltb a b (omega arith)
 signed-lt false a true b h = omega arith
 signed-lt true a false b h = lt→ltb 0 (a + b) (omega arith)
 signed-lt true a true b h = lt→ltb b a (omega arith)
 
-lt-signed : (s : Bool) (a : ℕ) (t : Bool) (b : ℕ) → T (below s a t b) → over s a + under t b < over t b + under s a
+lt-signed : (s : Bool) (a : ℕ) (t : Bool) (b : ℕ) → T (below s a t b) → plusBy s a + minusBy t b < plusBy t b + minusBy s a
 lt-signed false a false b h = omega (arith, ltb→lt a b h)
 lt-signed false a true b h = absurd h
 lt-signed true a false b h = omega (arith, ltb→lt 0 (a + b) h)
 lt-signed true a true b h = omega (arith, ltb→lt b a h)
 
-pub over-mul : (s : Bool) (a c : ℕ) → over s (a * c) ≡ over s a * c
-over-mul true a c = sym (zero-mul c)
-over-mul false a c = refl
+pub plus-by-mul : (s : Bool) (a c : ℕ) → plusBy s (a * c) ≡ plusBy s a * c
+plus-by-mul true a c = sym (zero-mul c)
+plus-by-mul false a c = refl
 
-pub under-mul : (s : Bool) (a c : ℕ) → under s (a * c) ≡ under s a * c
-under-mul true a c = refl
-under-mul false a c = sym (zero-mul c)
+pub minus-by-mul : (s : Bool) (a c : ℕ) → minusBy s (a * c) ≡ minusBy s a * c
+minus-by-mul true a c = refl
+minus-by-mul false a c = sym (zero-mul c)
 
-scaled : (s : Bool) (a c : ℕ) (t : Bool) (b d : ℕ) → over s (a * c) + under t (b * d) ≡ over s a * c + under t b * d
-scaled s a c t b d = rw (over-mul s a c, under-mul t b d)
+scaled : (s : Bool) (a c : ℕ) (t : Bool) (b d : ℕ) → plusBy s (a * c) + minusBy t (b * d) ≡ plusBy s a * c + minusBy t b * d
+scaled s a c t b d = rw (plus-by-mul s a c, minus-by-mul t b d)
 
 -- ---- finite floats are in the order of their fractions
 
-pub below-le : (x y : Float) → T (finite x) → T (finite y) → Below x y → T (le x y)
+pub order-le : (x y : Float) → T (finite x) → T (finite y) → InOrder x y → T (le x y)
 unfolding le
-below-le nan y p q h = absurd p
-below-le (inf s) y p q h = absurd p
-below-le (fin s m e) nan p q h = absurd q
-below-le (fin s m e) (inf t) p q h = absurd q
-below-le (fin s m e) (fin t n d) p q h =
+order-le nan y p q h = absurd p
+order-le (inf s) y p q h = absurd p
+order-le (fin s m e) nan p q h = absurd q
+order-le (fin s m e) (inf t) p q h = absurd q
+order-le (fin s m e) (fin t n d) p q h =
     signed-le s (m * up e * down d) t (n * up d * down e)
     (rw (scaled s (m * up e) (down d) t (n * up d) (down e), scaled t (n * up d) (down e) s (m * up e) (down d)) h)
 
-pub le-below : (x y : Float) → T (finite x) → T (finite y) → T (le x y) → Below x y
+pub le-order : (x y : Float) → T (finite x) → T (finite y) → T (le x y) → InOrder x y
 unfolding le
-le-below nan y p q h = absurd p
-le-below (inf s) y p q h = absurd p
-le-below (fin s m e) nan p q h = absurd q
-le-below (fin s m e) (inf t) p q h = absurd q
-le-below (fin s m e) (fin t n d) p q h =
+le-order nan y p q h = absurd p
+le-order (inf s) y p q h = absurd p
+le-order (fin s m e) nan p q h = absurd q
+le-order (fin s m e) (inf t) p q h = absurd q
+le-order (fin s m e) (fin t n d) p q h =
     rw (← scaled s (m * up e) (down d) t (n * up d) (down e), ← scaled t (n * up d) (down e) s (m * up e) (down d))
     (le-signed s (m * up e * down d) t (n * up d * down e) h)
 
 pub le-same : (x : Float) → T (finite x) → T (le x x)
-le-same x p = below-le x x p p (le-refl _)
+le-same x p = order-le x x p p (le-refl _)
 
 pub le-through : (x y z : Float) → T (finite x) → T (finite y) → T (finite z) → T (le x y) → T (le y z) → T (le x z)
 le-through x y z p q r h l =
-    below-le x z p r
-    (leq-trans (plus x) (minus x) (den x) (plus y) (minus y) (den y) (plus z) (minus z) (den z) (den-pos y) (le-below x y p q h) (le-below y z q r l))
+    order-le x z p r
+    (leq-trans (plus x) (minus x) (den x) (plus y) (minus y) (den y) (plus z) (minus z) (den z) (den-pos y) (le-order x y p q h) (le-order y z q r l))
 
 -- the same where the second is strict
 pub lt-after : (x y z : Float) → T (finite x) → T (finite y) → T (finite z) → T (le x y) → T (lt y z) → T (lt x z)
@@ -143,14 +143,14 @@ lt-after (fin s m e) (fin t n d) (fin u k g) p q r h l =
     let x = m * up e in
     let y = n * up d in
     let z = k * up g in
-    let less : over t y * down g + under u z * down d < over u z * down d + under t y * down g =
+    let less : plusBy t y * down g + minusBy u z * down d < plusBy u z * down d + minusBy t y * down g =
     rw (← scaled t y (down g) u z (down d), ← scaled u z (down d) t y (down g)) (lt-signed t (y * down g) u (z * down d) l) in
     signed-lt s (x * down g) u (z * down e)
     (rw (scaled s x (down g) u z (down e), scaled u z (down e) s x (down g))
     (lt-of-not-le (λ b.
     not-le-of-lt less
-    (leq-trans (over u z) (under u z) (down g) (over s x) (under s x) (down e) (over t y) (under t y) (down d) (down-pos e) b
-    (le-below (fin s m e) (fin t n d) tt tt h)))))
+    (leq-trans (plusBy u z) (minusBy u z) (down g) (plusBy s x) (minusBy s x) (down e) (plusBy t y) (minusBy t y) (down d) (down-pos e) b
+    (le-order (fin s m e) (fin t n d) tt tt h)))))
 
 pub lt-le : (x y : Float) → T (lt x y) → T (le x y)
 unfolding le
@@ -163,4 +163,4 @@ plus-least nan y p h = absurd h
 plus-least (inf true) y p h = absurd p
 plus-least (inf false) y p h = tt
 plus-least (fin true m e) y p h = absurd p
-plus-least (fin false m e) y p h = below-le (fin false 0 (pos 0)) (fin false m e) tt tt (omega arith)
+plus-least (fin false m e) y p h = order-le (fin false 0 (pos 0)) (fin false m e) tt tt (omega arith)

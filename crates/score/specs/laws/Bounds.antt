@@ -1,7 +1,7 @@
 -- E10: a score is below 1, and in time at least -1, since each part is at most its bonus, and what the parts add up to at their bounds is worked out
 -- once. And each legal action leaves a state in time.
 -- Assumes nothing.
-use mathlib.Core.Path.{_≡_, refl, subst}
+use mathlib.Core.Path.{_≡_, refl}
 use mathlib.Core.Bool.{Bool, true, false, cond}
 use Prim.Native.Nat.{ℕ, zero, suc, _+_, _≤_, _<_}
 use native.Mathlib.Nat.{zero-lt-suc}
@@ -13,7 +13,7 @@ use borrow.Author.Tests.{ne-eqb}
 use lib.Ieee.{Float, inf, binary32, ofInt, toBits, neg, add, sub, mul, div, lt, le}
 use lib.Ieee.Scale.{finite}
 use Rattle.laws.specs.Bits.{has}
-use Rattle.laws.specs.Floats.{hundredths, one}
+use Rattle.laws.specs.Floats.{hundredths, one, minusOne}
 use Rattle.laws.specs.laws.Order.{le-through, lt-after}
 use Rattle.laws.specs.laws.Within.{low-finite, high-finite, within-finite}
 use Rattle.action.specs.Actions as A
@@ -30,21 +30,13 @@ use Rattle.step.specs.laws.Step.{execute-step}
 use Rattle.moves.specs.declared.mode.Mode.{Mode}
 use Rattle.moves.specs.Moves.{movesBy}
 use Rattle.moves.specs.laws.Moves.{legal-known, legal-playable, legal-keeps}
-use Rattle.score.specs.Score.{cappedOf, weighedOf, scoreOf}
+use Rattle.score.specs.Score.{weigh, scoreOf}
 use Rattle.score.specs.Result.{judgedBy}
-use Rattle.score.specs.Bounds.{minusOne, greatestScore, ScoreBounds, ScoreIsBounded}
+use Rattle.score.specs.Bounds.{greatestScore, ScoreBounds, ScoreIsBounded}
 use Rattle.score.specs.declared.result.CraftResult.the-variants as R
-use Rattle.score.specs.laws.Shares.{weigh}
-use Rattle.score.specs.laws.Score.{leastFour, leastSteps, fullFour, fullSteps, of-either, steps-within, weighed-within, score-finite, score-minus-inf}
+use Rattle.score.specs.laws.Score.{leastFour, leastSteps, fullSteps, of-either, steps-within, weighed-within, score-finite, score-minus-inf}
 
 -- ---- the bounds, worked out
-
-full-quotient : cappedOf (div binary32 one one) ≡ one
-unfolding ofInt div lt
-full-quotient = refl
-
-full-is-greatest : weigh fullFour fullSteps ≡ greatestScore
-full-is-greatest = rw full-quotient
 
 pub greatest-bits : toBits binary32 greatestScore ≡ 0x3f7f_f326
 unfolding toBits ofInt add sub mul div lt
@@ -72,24 +64,24 @@ unfolding ofInt lt
 inf-below-one = tt
 
 -- at most both, the steps alone and the parts weighed, at their least
-abbrev Under : Float → Bool → Bool → Type 0
-Under lo finished timely = T (finite lo) × T (le lo (leastSteps timely)) × T (le lo (weigh (leastFour finished) (leastSteps timely)))
+abbrev Floor : Float → Bool → Bool → Type 0
+Floor lo finished timely = T (finite lo) × T (le lo (leastSteps timely)) × T (le lo (weigh (leastFour finished) (leastSteps timely)))
 
-under-one : Under minusOne false true
+floor-one : Floor minusOne false true
 unfolding ofInt add sub mul div le
-under-one = (tt, tt, tt)
+floor-one = (tt, tt, tt)
 
-under-three-quarters : Under (neg (hundredths 75)) true true
+floor-three-quarters : Floor (neg (hundredths 75)) true true
 unfolding ofInt neg add sub mul div le
-under-three-quarters = (tt, tt, tt)
+floor-three-quarters = (tt, tt, tt)
 
-under-254 : Under (ofInt binary32 (negsuc 253)) false false
+floor-254 : Floor (ofInt binary32 (negsuc 253)) false false
 unfolding ofInt add sub mul div le
-under-254 = (tt, tt, tt)
+floor-254 = (tt, tt, tt)
 
-under-weighed : T (finite (neg (hundredths 1365))) × T (le (neg (hundredths 1365)) (weigh (leastFour false) (leastSteps false)))
+floor-weighed : T (finite (neg (hundredths 1365))) × T (le (neg (hundredths 1365)) (weigh (leastFour false) (leastSteps false)))
 unfolding ofInt neg add sub mul div le
-under-weighed = (tt, tt)
+floor-weighed = (tt, tt)
 
 -- ---- THE theorems, of a single state
 
@@ -110,7 +102,7 @@ module _ (context : CraftContext) (state : CraftState) (given : CraftIn context 
           let steps = steps-within context state given byte top some false absurd in
           of-either context state (λ x. T (le x greatestScore))
           (le-through _ fullSteps greatestScore (within-finite steps) (high-finite steps) greatest-finite (steps .to) steps-below-greatest)
-          (subst (λ (x : Float). T (le (weighedOf context state) x)) full-is-greatest (weighed-within context state given byte top some false absurd false absurd .to))
+          (weighed-within context state given byte top some false absurd false absurd .to)
 
   pub score-below-one : T (lt (scoreOf context state) one)
   unfolding ofInt
@@ -120,32 +112,32 @@ module _ (context : CraftContext) (state : CraftState) (given : CraftIn context 
 
   module _ (some : 0 < context .«step_max») where
     score-from : (lo : Float) (finished timely : Bool) → (T finished → context .«progress_target» ≤ state .progress)
-        → (T timely → state .step ≤ context .«step_max») → Under lo finished timely → T (le lo (scoreOf context state))
-    score-from lo finished timely done early under =
+        → (T timely → state .step ≤ context .«step_max») → Floor lo finished timely → T (le lo (scoreOf context state))
+    score-from lo finished timely done early floor =
         let steps = steps-within context state given byte top some timely early in
         let weighed = weighed-within context state given byte top some timely early finished done in
         of-either context state (λ x. T (le lo x))
-        (le-through lo _ _ (under .0) (low-finite steps) (within-finite steps) (under .1) (steps .from))
-        (le-through lo _ _ (under .0) (low-finite weighed) (within-finite weighed) (under .2) (weighed .from))
+        (le-through lo _ _ (floor .0) (low-finite steps) (within-finite steps) (floor .1) (steps .from))
+        (le-through lo _ _ (floor .0) (low-finite weighed) (within-finite weighed) (floor .2) (weighed .from))
 
     module _ (early : state .step ≤ context .«step_max») where
       pub score-least : T (le minusOne (scoreOf context state))
-      score-least = score-from minusOne false true absurd (λ t. early) under-one
+      score-least = score-from minusOne false true absurd (λ t. early) floor-one
 
       -- -0.75 where the craft is finished
       pub finished-least : context .«progress_target» ≤ state .progress → T (le (neg (hundredths 75)) (scoreOf context state))
-      finished-least done = score-from (neg (hundredths 75)) true true (λ t. done) (λ t. early) under-three-quarters
+      finished-least done = score-from (neg (hundredths 75)) true true (λ t. done) (λ t. early) floor-three-quarters
 
     -- past step_max -254, and -13.65 where there is a quality target
     pub score-lowest : T (le (ofInt binary32 (negsuc 253)) (scoreOf context state))
-    score-lowest = score-from (ofInt binary32 (negsuc 253)) false false absurd absurd under-254
+    score-lowest = score-from (ofInt binary32 (negsuc 253)) false false absurd absurd floor-254
 
     pub weighed-lowest : 0 < context .«quality_target» → T (le (neg (hundredths 1365)) (scoreOf context state))
     unfolding scoreOf
     weighed-lowest aimed =
         let w = weighed-within context state given byte top some false absurd false absurd in
         rw (ne-eqb (context .«quality_target») 0 (λ e. omega arith))
-        (le-through (neg (hundredths 1365)) _ _ (under-weighed .0) (low-finite w) (within-finite w) (under-weighed .1) (w .from))
+        (le-through (neg (hundredths 1365)) _ _ (floor-weighed .0) (low-finite w) (within-finite w) (floor-weighed .1) (w .from))
 
 -- ---- a state that a craft came to: what the bounds rest on, and every legal action keeps
 

@@ -15,10 +15,11 @@ use Rattle.laws.specs.laws.NoNan.{finite-no-nan, add-minus-inf, over-zero}
 use Rattle.laws.specs.laws.Within.{Within, within-finite}
 use Rattle.craft_context.specs.declared.context.CraftContext.{CraftContext}
 use Rattle.craft_state.specs.declared.state.CraftState.{CraftState}
-use Rattle.craft_state.specs.Limits.{stepLeast, stepMost}
+use Rattle.craft_state.specs.Limits.{stepMost}
 use Rattle.craft_state.specs.Inside.{CraftIn}
-use Rattle.score.specs.Score.{progressBonus, qualityBonus, durabilityBonus, cpBonus, fewerStepsBonus, partOf, fewerOf, weighedOf, scoreOf}
-use Rattle.score.specs.laws.Shares.{latest, shareOf, durabilityShare, leastShare, weighFour, weigh}
+use Rattle.score.specs.Score.{progressBonus, qualityBonus, durabilityBonus, cpBonus, fewerStepsBonus, portionOf, partOf, fewerOf, weighFour, weigh, weighedOf, scoreOf}
+use Rattle.score.specs.Bounds.{firstStep}
+use Rattle.score.specs.laws.Shares.{latest, leastPortion}
 use Rattle.score.specs.laws.Shares.{fewer-within, whole-within, full-within, durability-within, four-within, weigh-within}
 
 -- ---- zero of zero earns the full bonus
@@ -48,17 +49,17 @@ cp-full = twentieth-full
 
 -- progress full where the craft is finished, all else none, and durability -19 of 1; the steps as late as they can be
 abbrev pub leastFour : Bool → Float
-leastFour finished = weighFour (cond finished one (float 0)) (float 0) leastShare (float 0)
+leastFour finished = weighFour (cond finished one (float 0)) (float 0) leastPortion (float 0)
 
 abbrev pub leastSteps : Bool → Float
-leastSteps timely = fewerOf (latest timely) stepLeast
+leastSteps timely = fewerOf (latest timely) 1
 
 -- each part full, at the first of 255 steps
 abbrev pub fullFour : Float
 fullFour = weighFour one one one one
 
 abbrev pub fullSteps : Float
-fullSteps = fewerOf stepLeast stepMost
+fullSteps = fewerOf firstStep stepMost
 
 module _ (context : CraftContext) (state : CraftState) where
   -- the share of the steps that is left
@@ -79,10 +80,10 @@ module _ (context : CraftContext) (state : CraftState) where
     abbrev others : Float
     others =
         weighFour
-        (shareOf (state .progress) (context .«progress_target»))
-        (shareOf (state .quality) (context .«quality_target»))
-        (durabilityShare (state .durability) (context .«durability_max»))
-        (shareOf (state .cp) (context .«cp_max»))
+        (portionOf (float (state .progress)) (float (context .«progress_target»)))
+        (portionOf (float (state .quality)) (float (context .«quality_target»)))
+        (portionOf (ofInt binary32 (state .durability)) (ofInt binary32 (context .«durability_max»)))
+        (portionOf (float (state .cp)) (float (context .«cp_max»)))
 
     others-within : (finished : Bool) → (T finished → context .«progress_target» ≤ state .progress) → Within 22 (leastFour finished) others fullFour
     others-within finished done =
@@ -92,7 +93,7 @@ module _ (context : CraftContext) (state : CraftState) where
         (whole-within (state .cp) (context .«cp_max»))
       where
         progress : (t : Bool) → (T t → context .«progress_target» ≤ state .progress)
-            → Within 1 (cond t one (float 0)) (shareOf (state .progress) (context .«progress_target»)) one
+            → Within 1 (cond t one (float 0)) (portionOf (float (state .progress)) (float (context .«progress_target»))) one
         progress true h = full-within (state .progress) (context .«progress_target») (given .state .progress) (h tt)
         progress false h = whole-within (state .progress) (context .«progress_target»)
 
@@ -101,7 +102,7 @@ module _ (context : CraftContext) (state : CraftState) where
 
       module _ (top : context .«step_max» ≤ stepMost) (some : 0 < context .«step_max») (timely : Bool) (early : T timely → state .step ≤ context .«step_max») where
         pub steps-within : Within 256 (leastSteps timely) stepsLeft fullSteps
-        steps-within = fewer-within (state .step) (context .«step_max») (given .state .step) byte some top timely early
+        steps-within = fewer-within (state .step) (context .«step_max») (le-trans (lit≤ tt) (given .state .step)) byte some top timely early
 
         pub weighed-within : (finished : Bool) → (T finished → context .«progress_target» ≤ state .progress)
             → Within 278 (weigh (leastFour finished) (leastSteps timely)) (weighedOf context state) (weigh fullFour fullSteps)

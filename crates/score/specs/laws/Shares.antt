@@ -7,7 +7,7 @@ use native.Mathlib.Nat.{zero-lt-suc}
 use native.Mathlib.Omega.{arith}
 use lib.Dec.{T, lit≤}
 use lib.IntN.{ℤ, pos, negsuc}
-use lib.Ieee.{Float, binary32, ofInt, add, mul, div, lt, le}
+use lib.Ieee.{Float, binary32, ofInt, div, lt, le}
 use Rattle.laws.specs.Floats.{float, hundredths, one}
 use Rattle.laws.specs.laws.Plus.{Plus, plus-of-nat, plus-div}
 use Rattle.laws.specs.laws.Small.{Small, small-more, of-nat-value}
@@ -16,10 +16,11 @@ use Rattle.laws.specs.laws.Order.{le-same, lt-le, plus-least}
 use Rattle.laws.specs.laws.Monotone.{quotient-up}
 use Rattle.laws.specs.laws.Within.{Within, within-same, add-within, mul-within, sub-within}
 use Rattle.action.specs.Limits.{amountMost}
-use Rattle.craft_state.specs.Limits.{stepLeast, stepMost, durabilityLeast}
+use Rattle.craft_state.specs.Limits.{stepMost, durabilityLeast}
 use Rattle.craft_state.specs.Inside.{DurabilityIn}
 use Rattle.craft_state.specs.laws.Inside.{raised}
-use Rattle.score.specs.Score.{progressBonus, qualityBonus, durabilityBonus, cpBonus, fewerStepsBonus, cappedOf, fewerOf}
+use Rattle.score.specs.Score.{progressBonus, qualityBonus, durabilityBonus, cpBonus, fewerStepsBonus, cappedOf, portionOf, fewerOf, weighFour, weigh}
+use Rattle.score.specs.Bounds.{firstStep}
 
 -- ---- one and the bonuses are at most 1
 
@@ -49,13 +50,13 @@ fewer-steps-small = lit≤ tt
 
 -- ---- the share of the steps that is left: at most what the first of 255 steps leaves, and in time at least none
 
--- the step and step_max of the least share
+-- the latest step of a craft whose step_max is 1
 abbrev pub latest : Bool → ℕ
-latest timely = cond timely stepLeast stepMost
+latest timely = cond timely 1 stepMost
 
-module _ (step most : ℕ) (started : stepLeast ≤ step) (byte : step ≤ stepMost) (some : 0 < most) (top : most ≤ stepMost) where
+module _ (step most : ℕ) (started : firstStep ≤ step) (byte : step ≤ stepMost) (some : 0 < most) (top : most ≤ stepMost) where
   used-within : (timely : Bool) → (T timely → step ≤ most)
-      → Within stepMost (div binary32 (float stepLeast) (float stepMost)) (div binary32 (float step) (float most)) (div binary32 (float (latest timely)) one)
+      → Within stepMost (div binary32 (float firstStep) (float stepMost)) (div binary32 (float step) (float most)) (div binary32 (float (latest timely)) one)
   unfolding ofInt div
   used-within timely early = record { low = lit≤ tt; high = high timely; from = from; to = to timely early }
     where
@@ -63,23 +64,17 @@ module _ (step most : ℕ) (started : stepLeast ≤ step) (byte : step ≤ stepM
       high true = lit≤ tt
       high false = lit≤ tt
 
-      from : T (le (div binary32 (float stepLeast) (float stepMost)) (div binary32 (float step) (float most)))
-      from = quotient-up binary32 (pos stepLeast) stepMost (pos step) most (lit≤ tt) some (lit≤ tt) (lit≤ tt) (omega arith) (omega arith) (omega arith)
+      from : T (le (div binary32 (float firstStep) (float stepMost)) (div binary32 (float step) (float most)))
+      from = quotient-up binary32 (pos firstStep) stepMost (pos step) most (lit≤ tt) some (lit≤ tt) (lit≤ tt) (omega arith) (omega arith) (omega arith)
 
       to : (timely : Bool) → (T timely → step ≤ most) → T (le (div binary32 (float step) (float most)) (div binary32 (float (latest timely)) one))
-      to true early = quotient-up binary32 (pos step) most (pos stepLeast) 1 some (lit≤ tt) (omega arith) (omega arith) (lit≤ tt) (lit≤ tt) (omega (arith, early tt))
+      to true early = quotient-up binary32 (pos step) most (pos 1) 1 some (lit≤ tt) (omega arith) (omega arith) (lit≤ tt) (lit≤ tt) (omega (arith, early tt))
       to false early = quotient-up binary32 (pos step) most (pos stepMost) 1 some (lit≤ tt) (omega arith) (omega arith) (lit≤ tt) (lit≤ tt) (omega arith)
 
-  pub fewer-within : (timely : Bool) → (T timely → step ≤ most) → Within 256 (fewerOf (latest timely) 1) (fewerOf step most) (fewerOf stepLeast stepMost)
+  pub fewer-within : (timely : Bool) → (T timely → step ≤ most) → Within 256 (fewerOf (latest timely) 1) (fewerOf step most) (fewerOf firstStep stepMost)
   fewer-within timely early = sub-within binary32 (used-within timely early) one 1 one-small (lit≤ tt)
 
 -- ---- a quotient under the cap
-
-abbrev pub shareOf : ℕ → ℕ → Float
-shareOf value target = cappedOf (div binary32 (float value) (float target))
-
-abbrev pub durabilityShare : ℤ → ℤ → Float
-durabilityShare d most = cappedOf (div binary32 (ofInt binary32 d) (ofInt binary32 most))
 
 capped-within : (b : ℕ) (lo q : Float) → 1 ≤ b → Small lo b → T (le lo one) → (T (lt q one) → T (le lo q)) → Within b lo (cappedOf q) one
 unfolding ofInt
@@ -90,7 +85,7 @@ capped-within b lo q B p h k = go (lt q one) (lt-le q one) k
     go false a c = record { low = p; high = small-more one 1 b B one-small; from = h; to = le-same one tt }
 
 -- of whole numbers it is at least 0
-pub whole-within : (value target : ℕ) → Within 1 (float 0) (shareOf value target) one
+pub whole-within : (value target : ℕ) → Within 1 (float 0) (portionOf (float value) (float target)) one
 unfolding ofInt le
 whole-within value target =
     let q = div binary32 (float value) (float target) in
@@ -98,12 +93,12 @@ whole-within value target =
     (plus-least q one (plus-div binary32 (float value) (float target) (plus-of-nat binary32 value) (plus-of-nat binary32 target)))
 
 -- and 1 where the value is at its target
-over-nothing : (value : ℕ) → value ≤ amountMost → shareOf value 0 ≡ one
+over-nothing : (value : ℕ) → value ≤ amountMost → portionOf (float value) (float 0) ≡ one
 unfolding ofInt div lt
 over-nothing zero h = refl
 over-nothing (suc v) h = ap cappedOf (over-zero binary32 (float (suc v)) (suc v) (zero-lt-suc v) (of-nat-value binary32 (suc v) h))
 
-pub full-within : (value target : ℕ) → value ≤ amountMost → target ≤ value → Within 1 one (shareOf value target) one
+pub full-within : (value target : ℕ) → value ≤ amountMost → target ≤ value → Within 1 one (portionOf (float value) (float target)) one
 unfolding ofInt div
 full-within value zero h l = rw (over-nothing value h) (within-same one 1 one-small)
 full-within value (suc t) h l =
@@ -111,10 +106,10 @@ full-within value (suc t) h l =
     (λ k. quotient-up binary32 (pos 1) 1 (pos value) (suc t) (lit≤ tt) (zero-lt-suc t) (lit≤ tt) (lit≤ tt) (omega arith) (omega arith) (omega arith))
 
 -- durability may be below 0, by 19 at most
-abbrev pub leastShare : Float
-leastShare = div binary32 (ofInt binary32 durabilityLeast) one
+abbrev pub leastPortion : Float
+leastPortion = div binary32 (ofInt binary32 durabilityLeast) one
 
-pub durability-within : (d most : ℤ) → DurabilityIn d most → Within 19 leastShare (durabilityShare d most) one
+pub durability-within : (d most : ℤ) → DurabilityIn d most → Within 19 leastPortion (portionOf (ofInt binary32 d) (ofInt binary32 most)) one
 unfolding ofInt div le
 durability-within d (negsuc n) h = absurd (none n (raised h .above))
   where
@@ -122,28 +117,16 @@ durability-within d (negsuc n) h = absurd (none n (raised h .above))
     none n h = omega arith
 durability-within (pos a) (pos n) h =
     let r = raised h in
-    capped-within 19 leastShare (div binary32 (float a) (float n)) (lit≤ tt) (lit≤ tt) tt
+    capped-within 19 leastPortion (div binary32 (float a) (float n)) (lit≤ tt) (lit≤ tt) tt
     (λ k.
     quotient-up binary32 durabilityLeast 1 (pos a) n (lit≤ tt) (omega (arith, r .above)) (lit≤ tt) (lit≤ tt) (omega (arith, r .to, r .top)) (omega (arith, r .top)) (omega arith))
 durability-within (negsuc a) (pos n) h =
     let r = raised h in
-    capped-within 19 leastShare (div binary32 (ofInt binary32 (negsuc a)) (float n)) (lit≤ tt) (lit≤ tt) tt
+    capped-within 19 leastPortion (div binary32 (ofInt binary32 (negsuc a)) (float n)) (lit≤ tt) (lit≤ tt) tt
     (λ k.
     quotient-up binary32 durabilityLeast 1 (negsuc a) n (lit≤ tt) (omega (arith, r .above)) (lit≤ tt) (lit≤ tt) (omega (arith, r .from)) (omega (arith, r .top)) (omega (arith, r .from, r .above)))
 
 -- ---- the shares, weighed by their bonuses and added from left to right
-
--- those that the steps do not touch
-abbrev pub weighFour : Float → Float → Float → Float → Float
-weighFour progress quality durability cp =
-    add binary32
-    (add binary32
-    (add binary32 (mul binary32 progressBonus progress) (mul binary32 qualityBonus quality))
-    (mul binary32 durabilityBonus durability))
-    (mul binary32 cpBonus cp)
-
-abbrev pub weigh : Float → Float → Float
-weigh four fewer = add binary32 four (mul binary32 fewerStepsBonus fewer)
 
 -- a bonus is not negative
 plus-bonus : (n : ℕ) → Plus (hundredths n)

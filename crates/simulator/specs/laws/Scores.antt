@@ -1,11 +1,11 @@
 -- E10: every finished score of a replay is below 1, and at least -1 where step_max is above 0; and the greatest score is reached.
 -- Assumes nothing.
-use mathlib.Core.Path.{_≡_, refl, sym, ap, _∙_}
+use mathlib.Core.Path.{_≡_, refl}
 use mathlib.Core.Bool.{Bool, true, false, cond}
-use mathlib.Core.List.{List, [], _∷_, map}
+use mathlib.Core.List.{List, [], _∷_}
 use Prim.Native.Nat.{ℕ, _+_, _≤_}
 use lib.IntN.{pos}
-use lib.Ieee.{Float, binary32, toBits, ofInt, add, sub, mul, div, lt}
+use lib.Ieee.{ofInt, div, lt}
 use Rattle.laws.specs.Bits.{has}
 use Rattle.refusal.specs.Judge.{judged, checksOf}
 use Rattle.refusal.specs.declared.Checked.the-variants.{Passed}
@@ -22,7 +22,7 @@ use Rattle.moves.specs.Moves.{movesBy}
 use Rattle.score.specs.Bounds.{greatestScore, ScoreIsBounded}
 use Rattle.score.specs.Result.{judgedBy, resultBy, scoresIn}
 use Rattle.score.specs.Score.{weighedOf, scoreOf}
-use Rattle.score.specs.laws.Bounds.{greatest-bits, Timely, start-timely, legal-timely, judged-bounded}
+use Rattle.score.specs.laws.Bounds.{Timely, start-timely, legal-timely, judged-bounded}
 use Rattle.simulator.specs.declared.replay.Replay.{Replay}
 use Rattle.simulator.specs.Replay.{goesOn, stopBy, slipBy, replayFrom, replayBy, replayOf}
 
@@ -71,16 +71,7 @@ finished =
       «use_delineation» = true;
     }
 
-finished-inside : checksOf (contextTests finished) ≡ Passed
-unfolding judged
-finished-inside = refl
-
-abbrev bitsOf : List Float → List ℕ
-bitsOf scores = map (toBits binary32) scores
-
-finished-bits : bitsOf (scoresIn (replayOf finished plain [] .result)) ≡ 0x3f7f_f326 ∷ []
-unfolding replayBy replayFrom stopBy startOf judgedBy scoreOf weighedOf toBits ofInt add sub mul div lt
-finished-bits = refl
-
-pub greatest-reached : bitsOf (scoresIn (replayOf finished plain [] .result)) ≡ bitsOf (greatestScore ∷ [])
-greatest-reached = finished-bits ∙ ap (λ (bits : ℕ). bits ∷ []) (sym greatest-bits)
+-- it is inside the limits, and its replay has that score
+pub greatest-reached : (checksOf (contextTests finished) ≡ Passed) × (scoresIn (replayOf finished plain [] .result) ≡ greatestScore ∷ [])
+unfolding judged replayBy replayFrom stopBy startOf judgedBy scoreOf weighedOf ofInt div lt
+greatest-reached = (refl, refl)

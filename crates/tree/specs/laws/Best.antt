@@ -13,12 +13,12 @@ use lib.Dec.{T, leb, eqb, ltb, eqb·suc-zero}
 use lib.Ieee.{Float, nan, inf, fin, up, down, lt, eq, le, ofInt}
 use lib.Ieee.Bits.{is-true}
 use lib.Ieee.Fits.{down-pos}
-use lib.Ieee.Positive.{through}
+use lib.Ieee.Scale.{finite}
 use borrow.Author.Tests.{leb-true, leb-false, le-leb, ltb-true, ltb-false, lt-ltb, eqb-true, eqb-false, eq-eqb, ne-eqb, not-true}
 use Rattle.laws.specs.Floats.{one}
 use Rattle.laws.specs.Lists.{elem}
 use Rattle.laws.specs.laws.Tests.{true-false, both, neither, and-both, and-true, or-true}
-use Rattle.laws.specs.laws.Small.{or-le}
+use Rattle.laws.specs.laws.Order.{le-same, le-through}
 use Rattle.tree.specs.declared.node.Node.{Node}
 use Rattle.tree.specs.declared.best.Best.{Best}
 use Rattle.tree.specs.Node.{plusZero}
@@ -47,14 +47,14 @@ ordinary (inf false) e = true-false (sym e)
 ordinary (fin true m e) h = true-false (sym (both (le plusZero (fin true m e) && le (fin true m e) one) _ h .1))
 ordinary (fin false m e) h = tt
 
+ordinary-finite : (x : Float) → Ordinary x → T (finite x)
+ordinary-finite (fin false m e) o = tt
+
 le-trans : (x y z : Float) → Ordinary x → Ordinary y → Ordinary z → T (le x y) → T (le y z) → T (le x z)
-unfolding le lt eq
-le-trans (fin false m e) (fin false n d) (fin false p c) a b o h i =
-    at-most _ _ (through (m * up e) (n * up d) (p * up c) (down e) (down d) (down c) (down-pos d) (or-le _ _ _ h) (or-le _ _ _ i))
+le-trans x y z a b o h i = le-through x y z (ordinary-finite x a) (ordinary-finite y b) (ordinary-finite z o) h i
 
 le-self : (x : Float) → Ordinary x → T (le x x)
-unfolding le lt eq
-le-self (fin false m e) o = at-most _ _ (le-refl (m * up e * down e))
+le-self x o = le-same x (ordinary-finite x o)
 
 le-total : (x y : Float) → Ordinary x → Ordinary y → le x y ≡ false → T (le y x)
 unfolding le lt eq

@@ -16,6 +16,7 @@ use lib.Ieee.Fits.{down-pos, and-i, eq→eqb}
 use lib.Ieee.Scale.{round-same}
 use borrow.Author.Tests.{ltb-false, eqb-true, eqb-false, lt-ltb, le-ltb, eq-eqb, ne-eqb}
 use Rattle.laws.specs.laws.Tests.{and-left, and-right}
+use Rattle.laws.specs.laws.Order.{signed-le, le-signed}
 use Rattle.laws.specs.laws.Small.{Small, or-le}
 use Rattle.tree.specs.Node.{plusZero, visitsMost, countMost}
 use Rattle.tree.specs.Sound.{within, minus}
@@ -27,36 +28,18 @@ level-of : (a b : ℕ) (t : Bool) → T (eqb a b && t) → a ≡ b
 level-of a b t h = eqb→eq a b (and-left (eqb a b) t h)
 
 pub at-most : (a b : ℕ) → a ≤ b → T (ltb a b || (eqb a b && true))
-at-most a b h = go (ltb a b) refl
-  where
-    go : (l : Bool) → ltb a b ≡ l → T (l || (eqb a b && true))
-    go true e = tt
-    go false e = let same : a ≡ b = omega (arith, ltb-false a b e) in and-i (eqb a b) true (eq→eqb same) tt
+at-most a b h = signed-le false a false b (omega arith)
 
 -- the same of two that are negative
-flipped : (a b : ℕ) → eqb a b ≡ eqb b a
-flipped a b = go (eqb b a) refl
-  where
-    go : (t : Bool) → eqb b a ≡ t → eqb a b ≡ t
-    go true e = eq-eqb a b (sym (eqb-true b a e))
-    go false e = ne-eqb a b (λ q. eqb-false b a e (sym q))
-
-over : (a b : ℕ) (t : Bool) → T (ltb a b || (eqb b a && t)) → a ≤ b
-over a b t h = or-le a b t (rw (flipped b a) at h)
+over : (a b : ℕ) → T (ltb a b || (eqb b a && true)) → a ≤ b
+over a b h = omega (arith, le-signed true b true a h)
 
 at-least : (a b : ℕ) → a ≤ b → T (ltb a b || (eqb b a && true))
-at-least a b h = rw (flipped b a) (at-most a b h)
+at-least a b h = signed-le true b true a (omega arith)
 
 -- what is negative is at most what is not
 opposite : (a b : ℕ) → T (ltb 0 (a + b) || (eqb a b && eqb a 0))
-opposite a b = go (ltb 0 (a + b)) refl
-  where
-    go : (l : Bool) → ltb 0 (a + b) ≡ l → T (l || (eqb a b && eqb a 0))
-    go true e = tt
-    go false e =
-        let same : a ≡ b = omega (arith, ltb-false 0 (a + b) e) in
-        let none : a ≡ 0 = omega (arith, ltb-false 0 (a + b) e) in
-        and-i (eqb a b) (eqb a 0) (eq→eqb same) (eq→eqb none)
+opposite a b = signed-le true a false b (omega arith)
 
 -- a / de is at most b / dd, which is k
 lowered : (a b k de dd : ℕ) → 0 < dd → b * 1 ≡ k * dd → a * dd ≤ b * de → a ≤ k * de
@@ -81,7 +64,7 @@ within-small (fin false m e) (fin false n d) k is h =
 within-small (fin false m e) (fin true n d) k is h =
     lowered (m * up e) (n * up d) k (down e) (down d) (down-pos d) is (le-of-eq (level-of _ _ _ (and-right (le (fin false n d) (fin false m e)) _ h)))
 within-small (fin true m e) (fin false n d) k is h =
-    lowered (m * up e) (n * up d) k (down e) (down d) (down-pos d) is (over _ _ _ (and-left (le (fin true n d) (fin true m e)) _ h))
+    lowered (m * up e) (n * up d) k (down e) (down d) (down-pos d) is (over _ _ (and-left (le (fin true n d) (fin true m e)) _ h))
 within-small (fin true m e) (fin true n d) k is h =
     lowered (m * up e) (n * up d) k (down e) (down d) (down-pos d) is (le-of-eq (sym (level-of _ _ _ (and-left (le (fin false n d) (fin true m e)) _ h))))
 
