@@ -23,29 +23,38 @@ pub fn fixed() -> impl Iterator<Item = Craft> {
 }
 
 pub fn compare_states(seed: u64, count: u64, program: &[&str]) -> io::Result<()> {
-    let states = states::fixed().into_iter().chain(states::random(seed, count));
-    compare("states", seed, states.map(Craft::State), states::events(), program)
+    let fixed = states::fixed().into_iter().map(Craft::State);
+    let random = states::random(seed, count).map(Craft::State);
+    compare("states", seed, fixed, random, states::events(), program)
 }
 
 pub fn compare_replays(seed: u64, count: u64, program: &[&str]) -> io::Result<()> {
-    let replays = replays::fixed().into_iter().chain(replays::random(seed, count));
-    compare("replays", seed, replays.map(Craft::Replay), replays::events(), program)
+    let fixed = replays::fixed().into_iter().map(Craft::Replay);
+    let random = replays::random(seed, count).map(Craft::Replay);
+    compare("replays", seed, fixed, random, replays::events(), program)
 }
 
 pub fn compare_displays(seed: u64, count: u64, program: &[&str]) -> io::Result<()> {
-    let displays = displays::fixed().into_iter().chain(displays::random(seed, count));
-    compare("displays", seed, displays.map(Craft::Display), displays::events(), program)
+    let fixed = displays::fixed().into_iter().map(Craft::Display);
+    let random = displays::random(seed, count).map(Craft::Display);
+    compare("displays", seed, fixed, random, displays::events(), program)
 }
 
 fn compare(
     name: &str,
     seed: u64,
-    crafts: impl Iterator<Item = Craft> + Send + 'static,
+    fixed: impl ExactSizeIterator<Item = Craft> + Send + 'static,
+    random: impl Iterator<Item = Craft> + Send + 'static,
     events: Vec<Event>,
     program: &[&str],
 ) -> io::Result<()> {
     let mut tally = Tally::new(events);
-    let asked = ask(program, crafts.map(Asked::new), |craft| {
+    let mut left = fixed.len();
+    let asked = ask(program, fixed.chain(random).map(Asked::new), |craft| {
+        if left == 0 {
+            tally.go_random();
+        }
+        left = left.saturating_sub(1);
         if let Err(refusal) = craft.what.count(&mut tally) {
             tally.add(Event::refused(refusal));
         }

@@ -5,7 +5,7 @@ use crafty::{CraftContext, CraftOptions, Player, Recipe, SearchOptions, Simulato
 
 /// The first is the default.
 const THRESHOLDS: [f32; 3] = [1.0, 0.2, 0.0];
-/// As many as a page may ask for.
+/// As many as request E7 allows of ours.
 const ITERATIONS: u32 = 4_096;
 
 pub fn print(seed: u64) {

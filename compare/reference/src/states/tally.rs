@@ -70,7 +70,9 @@ pub fn craft_events(mode: Mode) -> Vec<Event> {
 pub struct Tally {
     events: Vec<Event>,
     counts: HashMap<Event, u64>,
-    scores: Scores,
+    fixed: Scores,
+    random: Scores,
+    is_random: bool,
 }
 
 /// The least and the greatest score of those that are finite, which none is where step_max is 0.
@@ -84,20 +86,24 @@ impl Scores {
             self.0 = Some((least.min(score), greatest.max(score)));
         }
     }
-}
 
-impl fmt::Display for Scores {
-    fn fmt(&self, out: &mut fmt::Formatter) -> fmt::Result {
+    fn write(&self, out: &mut fmt::Formatter, of: &str) -> fmt::Result {
         let Some((least, greatest)) = self.0 else { return Ok(()) };
         let [low, high] = [least, greatest].map(result::hex);
-        writeln!(out, "finished scores: {low} ({least}) to {high} ({greatest})")
+        writeln!(out, "finished scores of {of}: {low} ({least}) to {high} ({greatest})")
     }
 }
 
 impl Tally {
     pub fn new(events: Vec<Event>) -> Tally {
         let counts = events.iter().map(|event| (*event, 0)).collect();
-        Tally { events, counts, scores: Scores::default() }
+        let (fixed, random) = (Scores::default(), Scores::default());
+        Tally { events, counts, fixed, random, is_random: false }
+    }
+
+    /// What follows is no longer of the fixed list.
+    pub fn go_random(&mut self) {
+        self.is_random = true;
     }
 
     /// An event that was thought impossible has no count and stops the run.
@@ -108,7 +114,8 @@ impl Tally {
     pub fn add_result(&mut self, mode: Mode, result: &Option<CraftResult>) {
         self.add(Event::Result(mode, result::name(result)));
         if let Some(CraftResult::Finished(score)) = result {
-            self.scores.add(*score);
+            let scores = if self.is_random { &mut self.random } else { &mut self.fixed };
+            scores.add(*score);
         }
     }
 
@@ -129,7 +136,8 @@ impl fmt::Display for Tally {
         for event in &self.events {
             writeln!(out, "{:>10} {event}", self.counts[event])?;
         }
-        write!(out, "{}", self.scores)?;
+        self.fixed.write(out, "the fixed list")?;
+        self.random.write(out, "random crafts")?;
         match self.events.iter().min_by_key(|event| self.counts[event]) {
             Some(least) => writeln!(out, "least: {} {least}", self.counts[least]),
             None => Ok(()),

@@ -6,13 +6,12 @@ use mathlib.Core.Bool.{Bool, true, false, not, cond, _&&_, _||_}
 use mathlib.Core.List.{List, [], _∷_}
 use mathlib.Core.Logic.{_⊎_, inl, inr}
 use Prim.Native.Nat.{ℕ, zero, suc, _+_, _*_, _≤_, _<_}
-use native.Mathlib.Nat.{le-refl, le-of-lt}
+use native.Mathlib.Nat.{le-of-lt}
 use native.Mathlib.Numerals.{add-one}
 use native.Mathlib.Omega.{arith}
 use lib.Dec.{T, leb, eqb, ltb, eqb·suc-zero}
 use lib.Ieee.{Float, nan, inf, fin, up, down, lt, eq, le, ofInt}
 use lib.Ieee.Bits.{is-true}
-use lib.Ieee.Fits.{down-pos}
 use lib.Ieee.Scale.{finite}
 use borrow.Author.Tests.{leb-true, leb-false, le-leb, ltb-true, ltb-false, lt-ltb, eqb-true, eqb-false, eq-eqb, ne-eqb, not-true}
 use Rattle.laws.specs.Floats.{one}

@@ -12,9 +12,9 @@ use lib.Ieee.{Float, nan, inf, fin, binary32, up, down, round, sum, add, neg, lt
 use lib.Ieee.Bits.{toBits-lt}
 use lib.Ieee.Digits.{Equals}
 use lib.Ieee.Exact.{HasValue}
-use lib.Ieee.Fits.{down-pos, and-i, eq→eqb}
+use lib.Ieee.Fits.{down-pos, and-i}
 use lib.Ieee.Scale.{round-same}
-use borrow.Author.Tests.{ltb-false, eqb-true, eqb-false, lt-ltb, le-ltb, eq-eqb, ne-eqb}
+use borrow.Author.Tests.{lt-ltb, le-ltb}
 use Rattle.laws.specs.laws.Tests.{and-left, and-right}
 use Rattle.laws.specs.laws.Order.{signed-le, le-signed}
 use Rattle.laws.specs.laws.Small.{Small, or-le}
