@@ -1,6 +1,6 @@
 //! The Rust's side of the comparison. `WHAT SEED COUNT PROGRAM..` has our program, the command PROGRAM.., answer a fixed
 //! list and COUNT random ones of WHAT, or COUNT bad inputs, and holds each answer to the Rust's or to its refusal.
-//! `thresholds SEED` prints what the Rust's search answers by its threshold.
+//! `thresholds SEED COUNT` prints what the Rust's search answers by its threshold.
 //! `sample PROGRAM FILE` writes the fixed list of a program of ours as its `stdin`, or the Rust's answers as its `stdout`.
 
 mod actions;
@@ -30,7 +30,7 @@ mod trees;
 use lined::Lined;
 use std::io::{self, Write};
 
-const COMMANDS: &str = "sample PROGRAM FILE | thresholds SEED | WHAT SEED COUNT PROGRAM.., \
+const COMMANDS: &str = "sample PROGRAM FILE | thresholds SEED COUNT | WHAT SEED COUNT PROGRAM.., \
     where WHAT is cases, states, displays, replays, texts or trees, or bad-cases, bad-crafts, bad-texts or bad-trees";
 
 fn main() -> io::Result<()> {
@@ -39,8 +39,8 @@ fn main() -> io::Result<()> {
     match words[..] {
         ["sample", "cases", file] => write_sample(file, fixed::cases().into_iter()),
         ["sample", "states", file] => write_sample(file, crafts::fixed()),
-        ["thresholds", seed] => {
-            thresholds::print(number(seed));
+        ["thresholds", seed, count] => {
+            thresholds::print(number(seed), number(count));
             Ok(())
         }
         [what, seed, count, ref program @ ..] if !program.is_empty() => {

@@ -14,16 +14,20 @@ use Rattle.score.specs.declared.result.CraftResult.the-variants as R
 abbrev pub firstStep : ℕ
 firstStep = stepLeast
 
--- the greatest score, 0.9998039: each portion full, at the first of 255 steps
+-- the greatest share of steps that can be left: at the first of 255
+abbrev pub fullSteps : Float
+fullSteps = fewerOf firstStep stepMost
+
+-- the greatest score, 0.9998039: with that, and each portion full
 abbrev pub greatestScore : Float
-greatestScore = weigh (weighFour one one one one) (fewerOf firstStep stepMost)
+greatestScore = weigh (weighFour one one one one) fullSteps
 
 -- below 1; and at least -1 where step_max is above 0, as it is minus infinity where that is 0
 pub record ScoreBounds (c : CraftContext) (score : Float) : Type 0 where
   pub below : T (lt score one)
   pub least : 0 < c .«step_max» → T (le minusOne score)
 
--- the score in a result is
+-- the score in a result, if it has one, is so bounded
 abbrev pub ScoreIsBounded : CraftContext → CraftResult → Type 0
 ScoreIsBounded c (R.Finished score) = ScoreBounds c score
 ScoreIsBounded c R.DurabilityFailure = Unit {0}

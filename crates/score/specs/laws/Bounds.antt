@@ -32,9 +32,9 @@ use Rattle.moves.specs.Moves.{movesBy}
 use Rattle.moves.specs.laws.Moves.{legal-known, legal-playable, legal-keeps}
 use Rattle.score.specs.Score.{weigh, scoreOf}
 use Rattle.score.specs.Result.{judgedBy}
-use Rattle.score.specs.Bounds.{greatestScore, ScoreBounds, ScoreIsBounded}
+use Rattle.score.specs.Bounds.{fullSteps, greatestScore, ScoreBounds, ScoreIsBounded}
 use Rattle.score.specs.declared.result.CraftResult.the-variants as R
-use Rattle.score.specs.laws.Score.{leastFour, leastSteps, fullSteps, of-either, steps-within, weighed-within, score-finite, score-minus-inf}
+use Rattle.score.specs.laws.Score.{leastFour, leastSteps, of-either, steps-within, weighed-within, score-finite, score-minus-inf}
 
 -- ---- the bounds, worked out
 

@@ -18,7 +18,7 @@ use Rattle.craft_state.specs.declared.state.CraftState.{CraftState}
 use Rattle.craft_state.specs.Limits.{stepMost}
 use Rattle.craft_state.specs.Inside.{CraftIn}
 use Rattle.score.specs.Score.{progressBonus, qualityBonus, durabilityBonus, cpBonus, fewerStepsBonus, portionOf, partOf, fewerOf, weighFour, weigh, weighedOf, scoreOf}
-use Rattle.score.specs.Bounds.{firstStep}
+use Rattle.score.specs.Bounds.{fullSteps, greatestScore}
 use Rattle.score.specs.laws.Shares.{latest, leastPortion}
 use Rattle.score.specs.laws.Shares.{fewer-within, whole-within, full-within, durability-within, four-within, weigh-within}
 
@@ -45,7 +45,7 @@ durability-full = twentieth-full
 pub cp-full : Full cpBonus
 cp-full = twentieth-full
 
--- ---- at its least and its greatest
+-- ---- the parts at their least
 
 -- progress full where the craft is finished, all else none, and durability -19 of 1; the steps as late as they can be
 abbrev pub leastFour : Bool → Float
@@ -53,13 +53,6 @@ leastFour finished = weighFour (cond finished one (float 0)) (float 0) leastPort
 
 abbrev pub leastSteps : Bool → Float
 leastSteps timely = fewerOf (latest timely) 1
-
--- each part full, at the first of 255 steps
-abbrev pub fullFour : Float
-fullFour = weighFour one one one one
-
-abbrev pub fullSteps : Float
-fullSteps = fewerOf firstStep stepMost
 
 module _ (context : CraftContext) (state : CraftState) where
   -- the share of the steps that is left
@@ -85,7 +78,7 @@ module _ (context : CraftContext) (state : CraftState) where
         (portionOf (ofInt binary32 (state .durability)) (ofInt binary32 (context .«durability_max»)))
         (portionOf (float (state .cp)) (float (context .«cp_max»)))
 
-    others-within : (finished : Bool) → (T finished → context .«progress_target» ≤ state .progress) → Within 22 (leastFour finished) others fullFour
+    others-within : (finished : Bool) → (T finished → context .«progress_target» ≤ state .progress) → Within 22 (leastFour finished) others (weighFour one one one one)
     others-within finished done =
         four-within (progress finished done)
         (whole-within (state .quality) (context .«quality_target»))
@@ -105,7 +98,7 @@ module _ (context : CraftContext) (state : CraftState) where
         steps-within = fewer-within (state .step) (context .«step_max») (le-trans (lit≤ tt) (given .state .step)) byte some top timely early
 
         pub weighed-within : (finished : Bool) → (T finished → context .«progress_target» ≤ state .progress)
-            → Within 278 (weigh (leastFour finished) (leastSteps timely)) (weighedOf context state) (weigh fullFour fullSteps)
+            → Within 278 (weigh (leastFour finished) (leastSteps timely)) (weighedOf context state) greatestScore
         unfolding weighedOf
         weighed-within finished done = weigh-within (others-within finished done) steps-within
 

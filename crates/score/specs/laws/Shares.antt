@@ -20,7 +20,7 @@ use Rattle.craft_state.specs.Limits.{stepMost, durabilityLeast}
 use Rattle.craft_state.specs.Inside.{DurabilityIn}
 use Rattle.craft_state.specs.laws.Inside.{raised}
 use Rattle.score.specs.Score.{progressBonus, qualityBonus, durabilityBonus, cpBonus, fewerStepsBonus, cappedOf, portionOf, fewerOf, weighFour, weigh}
-use Rattle.score.specs.Bounds.{firstStep}
+use Rattle.score.specs.Bounds.{firstStep, fullSteps}
 
 -- ---- one and the bonuses are at most 1
 
@@ -71,7 +71,7 @@ module _ (step most : ℕ) (started : firstStep ≤ step) (byte : step ≤ stepM
       to true early = quotient-up binary32 (pos step) most (pos 1) 1 some (lit≤ tt) (omega arith) (omega arith) (lit≤ tt) (lit≤ tt) (omega (arith, early tt))
       to false early = quotient-up binary32 (pos step) most (pos stepMost) 1 some (lit≤ tt) (omega arith) (omega arith) (lit≤ tt) (lit≤ tt) (omega arith)
 
-  pub fewer-within : (timely : Bool) → (T timely → step ≤ most) → Within 256 (fewerOf (latest timely) 1) (fewerOf step most) (fewerOf firstStep stepMost)
+  pub fewer-within : (timely : Bool) → (T timely → step ≤ most) → Within 256 (fewerOf (latest timely) 1) (fewerOf step most) fullSteps
   fewer-within timely early = sub-within binary32 (used-within timely early) one 1 one-small (lit≤ tt)
 
 -- ---- a quotient under the cap
