@@ -18,7 +18,7 @@ firstStep = stepLeast
 abbrev pub fullSteps : Float
 fullSteps = fewerOf firstStep stepMost
 
--- the greatest score, 0.9998039: with that, and each portion full
+-- the greatest score: with that, and each portion full
 abbrev pub greatestScore : Float
 greatestScore = weigh (weighFour one one one one) fullSteps
 

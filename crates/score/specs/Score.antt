@@ -35,6 +35,7 @@ cappedOf quotient = cond (lt quotient one) quotient one
 abbrev pub portionOf : Float → Float → Float
 portionOf value target = cappedOf (div binary32 value target)
 
+-- a portion times its bonus: a summand of what follows
 abbrev pub partOf : Float → Float → Float → Float
 partOf bonus value target = mul binary32 bonus (portionOf value target)
 

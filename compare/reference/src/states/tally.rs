@@ -137,7 +137,7 @@ impl fmt::Display for Tally {
             writeln!(out, "{:>10} {event}", self.counts[event])?;
         }
         self.fixed.write(out, "the fixed list")?;
-        self.random.write(out, "random crafts")?;
+        self.random.write(out, "random ones")?;
         match self.events.iter().min_by_key(|event| self.counts[event]) {
             Some(least) => writeln!(out, "least: {} {least}", self.counts[least]),
             None => Ok(()),

@@ -3,8 +3,7 @@
 -- Assumes nothing.
 use mathlib.Core.Path.{_≡_, refl}
 use mathlib.Core.Bool.{Bool, true, false, cond}
-use Prim.Native.Nat.{ℕ, zero, suc, _+_, _≤_, _<_}
-use native.Mathlib.Nat.{zero-lt-suc}
+use Prim.Native.Nat.{ℕ, _+_, _≤_, _<_}
 use native.Mathlib.Omega.{arith}
 use lib.Dec.{T, eqb, leb, lit≤}
 use lib.IntN.{pos, negsuc}
@@ -34,7 +33,7 @@ use Rattle.score.specs.Score.{weigh, scoreOf}
 use Rattle.score.specs.Result.{judgedBy}
 use Rattle.score.specs.Bounds.{fullSteps, greatestScore, ScoreBounds, ScoreIsBounded}
 use Rattle.score.specs.declared.result.CraftResult.the-variants as R
-use Rattle.score.specs.laws.Score.{leastFour, leastSteps, of-either, steps-within, weighed-within, score-finite, score-minus-inf}
+use Rattle.score.specs.laws.Score.{leastFour, leastSteps, of-either, steps-within, weighed-within, score-finite, by-steps, Scorable, scorable}
 
 -- ---- the bounds, worked out
 
@@ -85,37 +84,29 @@ floor-weighed = (tt, tt)
 
 -- ---- THE theorems, of a single state
 
-module _ (context : CraftContext) (state : CraftState) (given : CraftIn context state) (byte : state .step ≤ stepMost) (top : context .«step_max» ≤ stepMost) where
-  -- where step_max is 0 the score is minus infinity
-  by-steps : (P : Float → Type 0) → P (inf true) → (0 < context .«step_max» → P (scoreOf context state)) → P (scoreOf context state)
-  by-steps P none some = go (context .«step_max») refl
-    where
-      go : (most : ℕ) → context .«step_max» ≡ most → P (scoreOf context state)
-      go zero e = rw (score-minus-inf context state given byte e) none
-      go (suc m) e = some (rw e (zero-lt-suc m))
-
+module _ (context : CraftContext) (state : CraftState) (given : Scorable context state) (top : context .«step_max» ≤ stepMost) where
   pub score-most : T (le (scoreOf context state) greatestScore)
-  score-most = by-steps (λ x. T (le x greatestScore)) inf-below-greatest finite-most
+  score-most = by-steps context state given (given .started) (λ x. T (le x greatestScore)) inf-below-greatest finite-most
     where
       finite-most : 0 < context .«step_max» → T (le (scoreOf context state) greatestScore)
       finite-most some =
-          let steps = steps-within context state given byte top some false absurd in
+          let steps = steps-within context state given top some false absurd in
           of-either context state (λ x. T (le x greatestScore))
           (le-through _ fullSteps greatestScore (within-finite steps) (high-finite steps) greatest-finite (steps .to) steps-below-greatest)
-          (weighed-within context state given byte top some false absurd false absurd .to)
+          (weighed-within context state given top some false absurd false absurd .to)
 
   pub score-below-one : T (lt (scoreOf context state) one)
   unfolding ofInt
   score-below-one =
-      by-steps (λ x. T (lt x one)) inf-below-one
-      (λ some. lt-after (scoreOf context state) greatestScore one (score-finite context state given byte top some) greatest-finite tt score-most greatest-below-one)
+      by-steps context state given (given .started) (λ x. T (lt x one)) inf-below-one
+      (λ some. lt-after (scoreOf context state) greatestScore one (score-finite context state given top some) greatest-finite tt score-most greatest-below-one)
 
   module _ (some : 0 < context .«step_max») where
     score-from : (lo : Float) (finished timely : Bool) → (T finished → context .«progress_target» ≤ state .progress)
         → (T timely → state .step ≤ context .«step_max») → Floor lo finished timely → T (le lo (scoreOf context state))
     score-from lo finished timely done early floor =
-        let steps = steps-within context state given byte top some timely early in
-        let weighed = weighed-within context state given byte top some timely early finished done in
+        let steps = steps-within context state given top some timely early in
+        let weighed = weighed-within context state given top some timely early finished done in
         of-either context state (λ x. T (le lo x))
         (le-through lo _ _ (floor .0) (low-finite steps) (within-finite steps) (floor .1) (steps .from))
         (le-through lo _ _ (floor .0) (low-finite weighed) (within-finite weighed) (floor .2) (weighed .from))
@@ -135,7 +126,7 @@ module _ (context : CraftContext) (state : CraftState) (given : CraftIn context 
     pub weighed-lowest : 0 < context .«quality_target» → T (le (neg (hundredths 1365)) (scoreOf context state))
     unfolding scoreOf
     weighed-lowest aimed =
-        let w = weighed-within context state given byte top some false absurd false absurd in
+        let w = weighed-within context state given top some false absurd false absurd in
         rw (ne-eqb (context .«quality_target») 0 (λ e. omega arith))
         (le-through (neg (hundredths 1365)) _ _ (floor-weighed .0) (low-finite w) (within-finite w) (floor-weighed .1) (w .from))
 
@@ -169,9 +160,10 @@ module _ (c : CraftContext) (top : c .«step_max» ≤ stepMost) (s : CraftState
 
   pub score-bounded : ScoreBounds c (scoreOf c s)
   score-bounded =
+      let rests = scorable c s (t .inside) (t .byte) in
       record {
-        below = score-below-one c s (t .inside) (t .byte) top;
-        least = λ some. score-least c s (t .inside) (t .byte) top some (t .early some);
+        below = score-below-one c s rests top;
+        least = λ some. score-least c s rests top some (t .early some);
       }
 
   pub judged-bounded : (moves : ℕ) → ScoreIsBounded c (judgedBy c s moves)

@@ -13,12 +13,13 @@ use Rattle.laws.specs.laws.Floats.{fifth-bits, sixty-five-bits, twentieth-bits}
 use Rattle.laws.specs.laws.Small.{of-nat-value}
 use Rattle.laws.specs.laws.NoNan.{finite-no-nan, add-minus-inf, over-zero}
 use Rattle.laws.specs.laws.Within.{Within, within-finite}
+use Rattle.action.specs.Limits.{amountMost}
 use Rattle.craft_context.specs.declared.context.CraftContext.{CraftContext}
 use Rattle.craft_state.specs.declared.state.CraftState.{CraftState}
 use Rattle.craft_state.specs.Limits.{stepMost}
-use Rattle.craft_state.specs.Inside.{CraftIn}
+use Rattle.craft_state.specs.Inside.{DurabilityIn, CraftIn}
 use Rattle.score.specs.Score.{progressBonus, qualityBonus, durabilityBonus, cpBonus, fewerStepsBonus, portionOf, partOf, fewerOf, weighFour, weigh, weighedOf, scoreOf}
-use Rattle.score.specs.Bounds.{fullSteps, greatestScore}
+use Rattle.score.specs.Bounds.{firstStep, fullSteps, greatestScore}
 use Rattle.score.specs.laws.Shares.{latest, leastPortion}
 use Rattle.score.specs.laws.Shares.{fewer-within, whole-within, full-within, durability-within, four-within, weigh-within}
 
@@ -45,6 +46,18 @@ durability-full = twentieth-full
 pub cp-full : Full cpBonus
 cp-full = twentieth-full
 
+-- ---- what the bounds of a score rest on, of all that a state inside the limits has
+
+pub record Scorable (context : CraftContext) (state : CraftState) : Type 0 where
+  pub started : firstStep ≤ state .step
+  pub byte : state .step ≤ stepMost
+  pub progress : state .progress ≤ amountMost
+  pub durability : DurabilityIn (state .durability) (context .«durability_max»)
+
+pub scorable : (context : CraftContext) (state : CraftState) → CraftIn context state → state .step ≤ stepMost → Scorable context state
+scorable context state given byte =
+    record { started = le-trans (lit≤ tt) (given .state .step); byte = byte; progress = given .state .progress; durability = given .state .durability }
+
 -- ---- the parts at their least
 
 -- progress full where the craft is finished, all else none, and durability -19 of 1; the steps as late as they can be
@@ -53,6 +66,10 @@ leastFour finished = weighFour (cond finished one (float 0)) (float 0) leastPort
 
 abbrev pub leastSteps : Bool → Float
 leastSteps timely = fewerOf (latest timely) 1
+
+bonus-minus-inf : mul binary32 fewerStepsBonus (inf true) ≡ inf true
+unfolding ofInt mul div
+bonus-minus-inf = refl
 
 module _ (context : CraftContext) (state : CraftState) where
   -- the share of the steps that is left
@@ -68,7 +85,7 @@ module _ (context : CraftContext) (state : CraftState) where
       go true = a
       go false = b
 
-  module _ (given : CraftIn context state) where
+  module _ (given : Scorable context state) where
     -- the parts that the steps do not touch
     abbrev others : Float
     others =
@@ -82,53 +99,59 @@ module _ (context : CraftContext) (state : CraftState) where
     others-within finished done =
         four-within (progress finished done)
         (whole-within (state .quality) (context .«quality_target»))
-        (durability-within (state .durability) (context .«durability_max») (given .state .durability))
+        (durability-within (state .durability) (context .«durability_max») (given .durability))
         (whole-within (state .cp) (context .«cp_max»))
       where
         progress : (t : Bool) → (T t → context .«progress_target» ≤ state .progress)
             → Within 1 (cond t one (float 0)) (portionOf (float (state .progress)) (float (context .«progress_target»))) one
-        progress true h = full-within (state .progress) (context .«progress_target») (given .state .progress) (h tt)
+        progress true h = full-within (state .progress) (context .«progress_target») (given .progress) (h tt)
         progress false h = whole-within (state .progress) (context .«progress_target»)
 
-    module _ (byte : state .step ≤ stepMost) where
-      -- ---- where step_max is above 0
+    -- ---- where step_max is above 0
 
-      module _ (top : context .«step_max» ≤ stepMost) (some : 0 < context .«step_max») (timely : Bool) (early : T timely → state .step ≤ context .«step_max») where
-        pub steps-within : Within 256 (leastSteps timely) stepsLeft fullSteps
-        steps-within = fewer-within (state .step) (context .«step_max») (le-trans (lit≤ tt) (given .state .step)) byte some top timely early
+    module _ (top : context .«step_max» ≤ stepMost) (some : 0 < context .«step_max») (timely : Bool) (early : T timely → state .step ≤ context .«step_max») where
+      pub steps-within : Within 256 (leastSteps timely) stepsLeft fullSteps
+      steps-within = fewer-within (state .step) (context .«step_max») (given .started) (given .byte) some top timely early
 
-        pub weighed-within : (finished : Bool) → (T finished → context .«progress_target» ≤ state .progress)
-            → Within 278 (weigh (leastFour finished) (leastSteps timely)) (weighedOf context state) greatestScore
-        unfolding weighedOf
-        weighed-within finished done = weigh-within (others-within finished done) steps-within
-
-      pub score-finite : context .«step_max» ≤ stepMost → 0 < context .«step_max» → T (finite (scoreOf context state))
-      score-finite top some =
-          of-either (λ x. T (finite x)) (within-finite (steps-within top some false absurd)) (within-finite (weighed-within top some false absurd false absurd))
-
-      -- ---- step_max 0 gives minus infinity
-
-      steps-minus-inf : context .«step_max» ≡ 0 → stepsLeft ≡ inf true
-      unfolding ofInt sub
-      steps-minus-inf none =
-          rw none
-          (ap (sub binary32 one) (over-zero binary32 (float (state .step)) (state .step) (given .state .step) (of-nat-value binary32 (state .step) (le-trans byte (lit≤ tt)))))
-
-      bonus-minus-inf : mul binary32 fewerStepsBonus (inf true) ≡ inf true
-      unfolding ofInt mul div
-      bonus-minus-inf = refl
-
-      pub score-minus-inf : context .«step_max» ≡ 0 → scoreOf context state ≡ inf true
+      pub weighed-within : (finished : Bool) → (T finished → context .«progress_target» ≤ state .progress)
+          → Within 278 (weigh (leastFour finished) (leastSteps timely)) (weighedOf context state) greatestScore
       unfolding weighedOf
-      score-minus-inf none =
-          of-either (λ x. x ≡ inf true) (steps-minus-inf none)
-          (rw (steps-minus-inf none, bonus-minus-inf) (add-minus-inf binary32 others (within-finite (others-within false absurd))))
+      weighed-within finished done = weigh-within (others-within finished done) steps-within
 
-      -- THE theorem: no score is a NaN
-      pub score-no-nan : context .«step_max» ≤ stepMost → T (not (isNan (scoreOf context state)))
-      unfolding isNan
-      score-no-nan top = go (context .«step_max») refl
-        where
-          go : (most : ℕ) → context .«step_max» ≡ most → T (not (isNan (scoreOf context state)))
-          go zero e = rw (score-minus-inf e) tt
-          go (suc m) e = finite-no-nan (scoreOf context state) (score-finite top (rw e (zero-lt-suc m)))
+    pub score-finite : context .«step_max» ≤ stepMost → 0 < context .«step_max» → T (finite (scoreOf context state))
+    score-finite top some =
+        of-either (λ x. T (finite x)) (within-finite (steps-within top some false absurd)) (within-finite (weighed-within top some false absurd false absurd))
+
+    -- ---- step_max 0 gives minus infinity
+
+    steps-minus-inf : 0 < state .step → context .«step_max» ≡ 0 → stepsLeft ≡ inf true
+    unfolding ofInt sub
+    steps-minus-inf started none =
+        rw none
+        (ap (sub binary32 one) (over-zero binary32 (float (state .step)) (state .step) started (of-nat-value binary32 (state .step) (le-trans (given .byte) (lit≤ tt)))))
+
+    minus-inf : 0 < state .step → context .«step_max» ≡ 0 → scoreOf context state ≡ inf true
+    unfolding weighedOf
+    minus-inf started none =
+        of-either (λ x. x ≡ inf true) (steps-minus-inf started none)
+        (rw (steps-minus-inf started none, bonus-minus-inf) (add-minus-inf binary32 others (within-finite (others-within false absurd))))
+
+    -- so what holds of minus infinity, and of the score where step_max is above 0, holds of every score
+    pub by-steps : 0 < state .step → (P : Float → Type 0) → P (inf true) → (0 < context .«step_max» → P (scoreOf context state)) → P (scoreOf context state)
+    by-steps started P none some = go (context .«step_max») refl
+      where
+        go : (most : ℕ) → context .«step_max» ≡ most → P (scoreOf context state)
+        go zero e = rw (minus-inf started e) none
+        go (suc m) e = some (rw e (zero-lt-suc m))
+
+module _ (context : CraftContext) (state : CraftState) (given : CraftIn context state) (byte : state .step ≤ stepMost) where
+  pub score-minus-inf : context .«step_max» ≡ 0 → scoreOf context state ≡ inf true
+  score-minus-inf none = minus-inf context state (scorable context state given byte) (given .state .step) none
+
+  -- THE theorem: no score is a NaN
+  pub score-no-nan : context .«step_max» ≤ stepMost → T (not (isNan (scoreOf context state)))
+  unfolding isNan
+  score-no-nan top =
+      let rests = scorable context state given byte in
+      by-steps context state rests (given .state .step) (λ x. T (not (isNan x))) tt
+      (λ some. finite-no-nan (scoreOf context state) (score-finite context state rests top some))

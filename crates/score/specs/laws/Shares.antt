@@ -1,4 +1,5 @@
--- The five shares of a score, each between its least and its greatest, and what the bonuses make of them: by the order that the rounded operations keep.
+-- The portions of a score and its share of the steps, each between its least and its greatest, and what the bonuses make of them: by the order that
+-- the rounded operations keep.
 -- Assumes nothing.
 use mathlib.Core.Path.{_≡_, refl, ap}
 use mathlib.Core.Bool.{Bool, true, false, cond}
@@ -126,7 +127,7 @@ durability-within (negsuc a) (pos n) h =
     (λ k.
     quotient-up binary32 durabilityLeast 1 (negsuc a) n (lit≤ tt) (omega (arith, r .above)) (lit≤ tt) (lit≤ tt) (omega (arith, r .from)) (omega (arith, r .top)) (omega (arith, r .from, r .above)))
 
--- ---- the shares, weighed by their bonuses and added from left to right
+-- ---- weighed by their bonuses and added from left to right
 
 -- a bonus is not negative
 plus-bonus : (n : ℕ) → Plus (hundredths n)
