@@ -10,6 +10,17 @@ pub mod bits;
 
 pub struct ActionSet(pub u32);
 
+// Refusals 1 and 3, of a set and an action.
+pub fn check_member(set: ActionSet, n: u8) -> Checked
+    ensures { λ r. ⌜ r ≡ checksOf (memberTests (set .0) n) ⌝ }
+{
+    let inside = set.check();
+    if let Checked::Refused(x) = inside {
+        return Checked::Refused(x);
+    }
+    action::check_action(n)
+}
+
 // A set, or a refusal.
 pub enum Changed {
     Set(ActionSet),
@@ -63,16 +74,6 @@ impl ActionSet {
         Checked::Refused(Refusal::OutsideLimits)
     }
 
-    fn check_with(self, n: u8) -> Checked
-        ensures { λ r. ⌜ r ≡ checksOf (memberTests (self .0) n) ⌝ }
-    {
-        let inside = self.check();
-        if let Checked::Refused(x) = inside {
-            return Checked::Refused(x);
-        }
-        action::check_action(n)
-    }
-
     pub fn from_bits(bits: u32) -> Changed
         ensures { λ r. ⌜ FromBits bits r ⌝ }
     {
@@ -97,7 +98,7 @@ impl ActionSet {
     pub fn contains(self, n: u8) -> Asked
         ensures { λ r. ⌜ Contains (self .0) n r ⌝ }
     {
-        let tested = self.check_with(n);
+        let tested = check_member(self, n);
         if let Checked::Refused(x) = tested {
             return Asked::Refused(x);
         }
@@ -108,7 +109,7 @@ impl ActionSet {
     pub fn set(self, n: u8) -> Changed
         ensures { λ r. ⌜ Added (self .0) n r ⌝ }
     {
-        let tested = self.check_with(n);
+        let tested = check_member(self, n);
         if let Checked::Refused(x) = tested {
             return Changed::Refused(x);
         }
@@ -119,7 +120,7 @@ impl ActionSet {
     pub fn unset(self, n: u8) -> Changed
         ensures { λ r. ⌜ Removed (self .0) n r ⌝ }
     {
-        let tested = self.check_with(n);
+        let tested = check_member(self, n);
         if let Checked::Refused(x) = tested {
             return Changed::Refused(x);
         }

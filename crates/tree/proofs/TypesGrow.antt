@@ -19,7 +19,7 @@ use Rattle.tree.proofs.grow.Inserted as I
 use Rattle.tree.proofs.grow.Inserted.Laws as I′
 use Rattle.tree.proofs.grow.Recorded as R
 use Rattle.tree.proofs.grow.Recorded.Laws as R′
-use Rattle.walks.proofs.Values.{Datum, usize′, u8′, bool′, enum′}
+use Rattle.walks.proofs.Values.{Datum, usize′, u8′, u32′, bool′, enum′}
 use Rattle.walks.proofs.Functions.{nothing-asked, that, MutFn, ShrFn, PlainFn}
 use Rattle.tree.proofs.Types.{node′}
 
@@ -51,37 +51,42 @@ is-sound′ = record { takes = usize′ ∷ []; gives = bool′; asks = nothing-
 -- ---- records that are made
 
 abbrev pub new′ : PlainFn
-new′ = record { takes = usize′ ∷ u8′ ∷ []; gives = node′; asks = nothing-asked; says = λ a n. n ≡ nodeOf (a .0) (a .1 .0) }
+new′ = record { takes = usize′ ∷ u8′ ∷ u32′ ∷ []; gives = node′; asks = nothing-asked; says = λ a n. n ≡ nodeOf (a .0) (a .1 .0) (a .1 .1 .0) }
 
 abbrev pub root′ : PlainFn
-root′ = record { takes = []; gives = node′; asks = nothing-asked; says = λ a n. n ≡ rootNode }
+root′ = record { takes = u32′ ∷ []; gives = node′; asks = nothing-asked; says = λ a n. n ≡ rootNode (a .0) }
 
 -- ---- a new tree
 
 abbrev pub plant-answer′ : PlainFn
-plant-answer′ = record { takes = usize′ ∷ []; gives = planted′; asks = nothing-asked; says = λ a r. PlantAnswer (a .0) r }
+plant-answer′ = record { takes = usize′ ∷ u32′ ∷ []; gives = planted′; asks = nothing-asked; says = λ a r. PlantAnswer (a .0) (a .1 .0) r }
 
 abbrev pub is-planted′ : PlainFn
 is-planted′ = record { takes = planted′ ∷ []; gives = bool′; asks = nothing-asked; says = λ a r. r ≡ isPlanted (a .0) }
 
 abbrev pub plant′ : MutFn T.the-row
-plant′ = record { takes = []; gives = planted′; asks = nothing-asked; says = λ xs a r zs. Plants xs r zs }
+plant′ = record { takes = u32′ ∷ []; gives = planted′; asks = nothing-asked; says = λ xs a r zs. Plants xs (a .0) r zs }
 
 -- ---- insertion
 
 abbrev pub insert-answer′ : PlainFn
 insert-answer′ = record {
-  takes = bool′ ∷ usize′ ∷ usize′ ∷ usize′ ∷ u8′ ∷ [];
+  takes = bool′ ∷ usize′ ∷ usize′ ∷ usize′ ∷ u8′ ∷ u32′ ∷ [];
   gives = inserted′;
   asks = that (λ _ a. a .0 ≡ true → a .1 .1 .0 + 1 < 2 ^ 64);
-  says = λ a r. InsertAnswer (a .0) (a .1 .0) (a .1 .1 .0) (a .1 .1 .1 .0) (a .1 .1 .1 .1 .0) r;
+  says = λ a r. InsertAnswer (a .0) (a .1 .0) (a .1 .1 .0) (a .1 .1 .1 .0) (a .1 .1 .1 .1 .0) (a .1 .1 .1 .1 .1 .0) r;
 }
 
 abbrev pub is-inserted′ : PlainFn
 is-inserted′ = record { takes = inserted′ ∷ []; gives = bool′; asks = nothing-asked; says = λ a r. r ≡ isInserted (a .0) }
 
 abbrev pub insert′ : MutFn T.the-row
-insert′ = record { takes = usize′ ∷ usize′ ∷ u8′ ∷ []; gives = inserted′; asks = nothing-asked; says = λ xs a r zs. Inserts xs (a .0) (a .1 .0) (a .1 .1 .0) r zs }
+insert′ = record {
+  takes = usize′ ∷ usize′ ∷ u8′ ∷ u32′ ∷ [];
+  gives = inserted′;
+  asks = nothing-asked;
+  says = λ xs a r zs. Inserts xs (a .0) (a .1 .0) (a .1 .1 .0) (a .1 .1 .1 .0) r zs;
+}
 
 -- ---- a record by its number
 

@@ -57,12 +57,12 @@ pub record Changes {A : Type 0} (kind : Kind A) (tests : List Test) (answer : A)
   pub says : Says kind tests answer r
   pub records : after ≡ judged (λ x. nodes) changed tests
 
-abbrev pub Plants : List Node → Planted → List Node → Type 0
-Plants nodes r after = Changes planted (newTests nodes) (P.Count newCount) nodes (plantedOf nodes) r after
+abbrev pub Plants : List Node → ℕ → Planted → List Node → Type 0
+Plants nodes unused r after = Changes planted (newTests nodes unused) (P.Count newCount) nodes (plantedOf nodes unused) r after
 
-abbrev pub Inserts : List Node → ℕ → ℕ → ℕ → Inserted → List Node → Type 0
-Inserts nodes count parent action r after =
-    Changes inserted (insertTests nodes count parent action) (I.At count (count + 1)) nodes (insertedOf nodes count parent action) r after
+abbrev pub Inserts : List Node → ℕ → ℕ → ℕ → ℕ → Inserted → List Node → Type 0
+Inserts nodes count parent action unused r after =
+    Changes inserted (insertTests nodes count parent action unused) (I.At count (count + 1)) nodes (insertedOf nodes count parent action unused) r after
 
 abbrev pub Looks : List Node → ℕ → ℕ → Recorded → Type 0
 Looks nodes count k r = Says recorded (recordTests nodes count k) (R.Record (nodeAt nodes k)) r

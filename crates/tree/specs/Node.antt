@@ -1,4 +1,4 @@
--- Document 01, Tree: one record. "Insertion takes record number count, floats 0", and of back-propagation "adding 1, the score, and the greater maximum;
+-- Document 01, Tree, and document 02, E7, "records gain their unused moves": one record. "Insertion takes record number count, floats 0", and of back-propagation "adding 1, the score, and the greater maximum;
 -- .. ours stays +0"; refusals 10 and 11. Sums and comparisons are those of binary32, by the logic's account of IEEE 754.
 -- Assumes nothing.
 use mathlib.Core.Bool.{Bool, cond, _&&_}
@@ -23,19 +23,20 @@ visitsMost = float countMost
 
 -- ---- a record that was never visited
 
-abbrev pub nodeOf : ℕ → ℕ → Node
-nodeOf parent action =
+abbrev pub nodeOf : ℕ → ℕ → ℕ → Node
+nodeOf parent action unused =
     record {
       parent = parent;
       action = action;
       visits = plusZero;
       «score_sum» = plusZero;
       «max_score» = plusZero;
+      unused = unused;
     }
 
 -- record 0: parent 0, action 31
-abbrev pub rootNode : Node
-rootNode = nodeOf 0 actions
+abbrev pub rootNode : ℕ → Node
+rootNode unused = nodeOf 0 actions unused
 
 -- ---- a visit
 
@@ -63,4 +64,5 @@ touchedOf n score =
       visits = add binary32 (n .visits) one;
       «score_sum» = add binary32 (n .«score_sum») score;
       «max_score» = greaterOf (n .«max_score») score;
+      unused = n .unused;
     }

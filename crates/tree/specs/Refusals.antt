@@ -1,4 +1,5 @@
--- Document 01, What comes back on refusal: the tests of the tree's entries, 3, 7, 8, 9, 10 and 11 in this order, and 6 last.
+-- Document 01, What comes back on refusal: the tests of the tree's entries, 1, 3, 7, 8, 9, 10 and 11 in this order, and 6 last.
+-- Document 02, E7: unused moves with bit 31 set are refused by 1.
 -- Assumes nothing.
 use mathlib.Core.Bool.{Bool, not}
 use mathlib.Core.List.{List, [], _∷_}
@@ -9,6 +10,7 @@ use lib.ListN.{length}
 use Rattle.refusal.specs.Judge.{Test, roomTest}
 use Rattle.refusal.specs.declared.Refusal.the-variants.{UnsoundTree, UnknownNode, NotAbove, VisitsFull}
 use Rattle.action.specs.Known.{actionTest}
+use Rattle.action_set.specs.Sets.{setTest}
 use Rattle.tree.specs.declared.node.Node.{Node}
 use Rattle.tree.specs.Node.{scoreTest}
 use Rattle.tree.specs.Tree.{isSound, childrenOf, isAbove, pathOf, anyFull, solutionOf}
@@ -37,14 +39,15 @@ visitsTest nodes start target = record { passed = not (anyFull nodes (pathOf nod
 abbrev pub newCount : ℕ
 newCount = 1
 
-abbrev pub newTests : List Node → List Test
-newTests nodes = roomTest (length nodes) newCount ∷ []
+abbrev pub newTests : List Node → ℕ → List Test
+newTests nodes unused = setTest unused ∷ roomTest (length nodes) newCount ∷ []
 
 abbrev pub recordTests : List Node → ℕ → ℕ → List Test
 recordTests nodes count k = treeTest nodes count ∷ nodeTest count k ∷ []
 
-abbrev pub insertTests : List Node → ℕ → ℕ → ℕ → List Test
-insertTests nodes count parent action = actionTest action ∷ treeTest nodes count ∷ nodeTest count parent ∷ roomTest (length nodes) (count + 1) ∷ []
+abbrev pub insertTests : List Node → ℕ → ℕ → ℕ → ℕ → List Test
+insertTests nodes count parent action unused =
+    setTest unused ∷ actionTest action ∷ treeTest nodes count ∷ nodeTest count parent ∷ roomTest (length nodes) (count + 1) ∷ []
 
 abbrev pub childrenTests : List Node → ℕ → ℕ → ℕ → List Test
 childrenTests nodes count k room = treeTest nodes count ∷ nodeTest count k ∷ roomTest room (length (childrenOf count nodes k)) ∷ []

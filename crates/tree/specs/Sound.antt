@@ -1,11 +1,13 @@
 -- Document 01, Tree: when a record is sound at its number. "Record 0 has parent 0, action 31. Others: parent below own number, action ≤ 30. All: visits whole,
--- 0..=16,777,216; |score_sum| ≤ visits; max_score from +0 to 1, minus zero excluded."
+-- 0..=16,777,216; |score_sum| ≤ visits; max_score from +0 to 1, minus zero excluded." Document 02, E7: bit 31 of the unused moves
+-- is clear.
 -- Assumes nothing.
 use mathlib.Core.Bool.{Bool, false, not, cond, _&&_}
 use Prim.Native.Nat.{ℕ}
 use lib.Dec.{eqb, ltb}
 use lib.Ieee.{Float, nan, inf, fin, neg, le, eq, toUnsigned}
 use Rattle.action.specs.Known.{actions, known}
+use Rattle.action_set.specs.Sets.{setTest}
 use Rattle.tree.specs.declared.node.Node.{Node}
 use Rattle.tree.specs.Node.{plusZero, visitsMost}
 use Rattle.laws.specs.Floats.{float, one}
@@ -35,6 +37,10 @@ minus (fin s m e) = s
 unfoldable pub isMaximum : Float → Bool
 isMaximum score = (le plusZero score && le score one) && not (minus score)
 
+-- unused moves: a set, whatever moves they are
+abbrev pub isSet : ℕ → Bool
+isSet unused = setTest unused .passed
+
 unfoldable pub soundAt : ℕ → Node → Bool
 soundAt k n =
-    ((placed k (n .parent) (n .action) && isCount (n .visits)) && within (n .«score_sum») (n .visits)) && isMaximum (n .«max_score»)
+    (((placed k (n .parent) (n .action) && isCount (n .visits)) && within (n .«score_sum») (n .visits)) && isMaximum (n .«max_score»)) && isSet (n .unused)

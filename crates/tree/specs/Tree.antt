@@ -14,7 +14,7 @@ use Rattle.tree.specs.Sound.{soundAt}
 
 -- what `getD` answers past the end
 abbrev pub noNode : Node
-noNode = rootNode
+noNode = rootNode 0
 
 abbrev pub nodeAt : List Node → ℕ → Node
 nodeAt nodes k = getD nodes k noNode
@@ -30,11 +30,11 @@ isSound nodes count = (leb 1 count && leb count (length nodes)) && soundTo count
 
 -- ---- a new tree, and insertion at record number count
 
-abbrev pub plantedOf : List Node → List Node
-plantedOf nodes = set nodes 0 rootNode
+abbrev pub plantedOf : List Node → ℕ → List Node
+plantedOf nodes unused = set nodes 0 (rootNode unused)
 
-abbrev pub insertedOf : List Node → ℕ → ℕ → ℕ → List Node
-insertedOf nodes count parent action = set nodes count (nodeOf parent action)
+abbrev pub insertedOf : List Node → ℕ → ℕ → ℕ → ℕ → List Node
+insertedOf nodes count parent action unused = set nodes count (nodeOf parent action unused)
 
 -- ---- children, in record order
 

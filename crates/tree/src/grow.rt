@@ -9,6 +9,7 @@ use super::node::Node;
 use super::records::node_at;
 use super::records::put_node;
 use super::scan::is_sound;
+use action_set::ActionSet;
 use refusal::Checked;
 use refusal::Refusal;
 
@@ -33,9 +34,14 @@ pub enum Recorded {
 // A new tree is record 0 alone.
 const NEW_COUNT: usize = 1;
 
-fn plant_answer(records: usize) -> Planted
-    ensures { λ r. ⌜ PlantAnswer records r ⌝ }
+fn plant_answer(records: usize, unused: u32) -> Planted
+    ensures { λ r. ⌜ PlantAnswer records unused r ⌝ }
 {
+    let set = ActionSet(unused);
+    let inside = set.check();
+    if let Checked::Refused(x) = inside {
+        return Planted::Refused(x);
+    }
     let room = refusal::check_room(records, NEW_COUNT);
     if let Checked::Refused(x) = room {
         return Planted::Refused(x);
@@ -53,12 +59,19 @@ fn is_planted(answer: Planted) -> bool
 }
 
 // Insertion into a tree that was scanned. A sound tree's count is at most the number of records, so one more does not overflow.
-fn insert_answer(sound: bool, records: usize, count: usize, parent: usize, action: u8) -> Inserted
+fn insert_answer(
+    sound: bool,
+    records: usize,
+    count: usize,
+    parent: usize,
+    action: u8,
+    unused: u32,
+) -> Inserted
     requires { ⌜ (sound ≡ true → count + 1 < 2 ^ 64) ⌝ }
-    ensures { λ r. ⌜ InsertAnswer sound records count parent action r ⌝ }
+    ensures { λ r. ⌜ InsertAnswer sound records count parent action unused r ⌝ }
 {
-    let known = action::check_action(action);
-    if let Checked::Refused(x) = known {
+    let member = action_set::check_member(ActionSet(unused), action);
+    if let Checked::Refused(x) = member {
         return Inserted::Refused(x);
     }
     if !sound {
@@ -92,30 +105,30 @@ pub fn is_used(count: usize, k: usize) -> bool
 }
 
 // Record 0 is written, whatever the records held.
-pub fn plant(nodes: &mut [Node]) -> Planted
-    ensures { λ r. ⌜ Plants (now (nodes .entry)) r (now (nodes .exit)) ⌝ }
+pub fn plant(nodes: &mut [Node], unused: u32) -> Planted
+    ensures { λ r. ⌜ Plants (now (nodes .entry)) unused r (now (nodes .exit)) ⌝ }
 {
-    let answer = plant_answer(nodes.len());
+    let answer = plant_answer(nodes.len(), unused);
     let accepted = is_planted(answer);
     if !accepted {
         return answer;
     }
-    let root = Node::root();
+    let root = Node::root(unused);
     put_node(nodes, 0, root);
     answer
 }
 
-// A record more, below its parent.
-pub fn insert(nodes: &mut [Node], count: usize, parent: usize, action: u8) -> Inserted
-    ensures { λ r. ⌜ Inserts (now (nodes .entry)) count parent action r (now (nodes .exit)) ⌝ }
+// A record more, below its parent, whose unused moves stay as they are.
+pub fn insert(nodes: &mut [Node], count: usize, parent: usize, action: u8, unused: u32) -> Inserted
+    ensures { λ r. ⌜ Inserts (now (nodes .entry)) count parent action unused r (now (nodes .exit)) ⌝ }
 {
     let sound = is_sound(nodes, count);
-    let answer = insert_answer(sound, nodes.len(), count, parent, action);
+    let answer = insert_answer(sound, nodes.len(), count, parent, action, unused);
     let accepted = is_inserted(answer);
     if !accepted {
         return answer;
     }
-    let n = Node::new(parent, action);
+    let n = Node::new(parent, action, unused);
     put_node(nodes, count, n);
     answer
 }

@@ -16,6 +16,8 @@ pub struct Node {
     pub visits: f32,
     pub score_sum: f32,
     pub max_score: f32,
+    // The moves not drawn from it yet, bit n for action n; what they are is for the caller to say.
+    pub unused: u32,
 }
 
 impl Node {
@@ -30,8 +32,8 @@ impl Node {
     pub const SCORE_MOST: f32 = 1.0;
 
     // A record that was never visited.
-    pub fn new(parent: usize, action: u8) -> Node
-        ensures { λ r. ⌜ r ≡ nodeOf parent action ⌝ }
+    pub fn new(parent: usize, action: u8, unused: u32) -> Node
+        ensures { λ r. ⌜ r ≡ nodeOf parent action unused ⌝ }
     {
         Node {
             parent: parent,
@@ -39,14 +41,15 @@ impl Node {
             visits: 0.0,
             score_sum: 0.0,
             max_score: 0.0,
+            unused,
         }
     }
 
     // Record 0 of a new tree.
-    pub fn root() -> Node
-        ensures { λ r. ⌜ r ≡ rootNode ⌝ }
+    pub fn root(unused: u32) -> Node
+        ensures { λ r. ⌜ r ≡ rootNode unused ⌝ }
     {
-        Node::new(0, Node::NO_ACTION)
+        Node::new(0, Node::NO_ACTION, unused)
     }
 }
 

@@ -1,8 +1,9 @@
 // Whether one record is sound at its number.
 ghost use mathlib.Core.Path.{_≡_};
-ghost use Rattle.tree.specs.Sound.{placed, isCount, within, isMaximum, soundAt};
+ghost use Rattle.tree.specs.Sound.{placed, isCount, within, isMaximum, isSet, soundAt};
 use super::node::Node;
 use action::ACTIONS;
+use action_set::ActionSet;
 use std::num;
 
 // The bits of minus zero: those of a number from +0 on are below them.
@@ -45,6 +46,13 @@ fn is_maximum(score: f32) -> bool
     false
 }
 
+// Bit 31 is clear.
+fn is_set(unused: u32) -> bool
+    ensures { λ r. ⌜ r ≡ isSet unused ⌝ }
+{
+    unused < ActionSet::LIMIT
+}
+
 // Record k of a tree: a NaN fails every comparison.
 pub fn is_sound_at(k: usize, n: Node) -> bool
     ensures { λ r. ⌜ r ≡ soundAt k n ⌝ }
@@ -53,4 +61,5 @@ pub fn is_sound_at(k: usize, n: Node) -> bool
         & is_count(n.visits)
         & is_within(n.score_sum, n.visits)
         & is_maximum(n.max_score)
+        & is_set(n.unused)
 }

@@ -14,6 +14,7 @@ use Rattle.refusal.specs.laws.Demands.{number-among, refused-whole}
 use Rattle.refusal.specs.laws.Judge.{shown, judged-passed, one-answer, judged-map}
 use Rattle.laws.specs.laws.Tests.{true-false}
 use Rattle.action.specs.Known.{actionTest}
+use Rattle.action_set.specs.Sets.{setTest}
 use Rattle.tree.specs.declared.node.Node.{Node}
 use Rattle.tree.specs.declared.grow.Planted.{Planted}
 use Rattle.tree.specs.declared.grow.Inserted.{Inserted}
@@ -35,40 +36,41 @@ let-through (t ∷ rest) e = by (t .passed) (let-through rest) e
     by true later e = later e
     by false later e = absurd (true-false (sym e))
 
-module _ (nodes : List Node) {r : Planted} (s : PlantAnswer (length nodes) r) where
-  pub plants : {after : List Node} (b : Bool) → isPlanted r ≡ b → after ≡ cond b (plantedOf nodes) nodes → Plants nodes r after
+module _ (nodes : List Node) (unused : ℕ) {r : Planted} (s : PlantAnswer (length nodes) unused r) where
+  pub plants : {after : List Node} (b : Bool) → isPlanted r ≡ b → after ≡ cond b (plantedOf nodes unused) nodes → Plants nodes unused r after
   plants b e w =
-      let f : Planted → List Node = λ x. cond (isPlanted x) (plantedOf nodes) nodes in
+      let f : Planted → List Node = λ x. cond (isPlanted x) (plantedOf nodes unused) nodes in
       record {
         says = s;
-        records = w ∙ ap (λ (x : Bool). cond x (plantedOf nodes) nodes) (sym e)
-            ∙ ap f (s .same) ∙ judged-map f _ _ (newTests nodes);
+        records = w ∙ ap (λ (x : Bool). cond x (plantedOf nodes unused) nodes) (sym e)
+            ∙ ap f (s .same) ∙ judged-map f _ _ (newTests nodes unused);
       }
 
-  pub planted-passed : isPlanted r ≡ true → Passed ≡ checksOf (newTests nodes)
-  planted-passed e = let-through (newTests nodes) (sym (judged-map isPlanted _ _ (newTests nodes)) ∙ ap isPlanted (sym (s .same)) ∙ e)
+  pub planted-passed : isPlanted r ≡ true → Passed ≡ checksOf (newTests nodes unused)
+  planted-passed e = let-through (newTests nodes unused) (sym (judged-map isPlanted _ _ (newTests nodes unused)) ∙ ap isPlanted (sym (s .same)) ∙ e)
 
   pub planted-room : isPlanted r ≡ true → 0 < length nodes
-  planted-room e = leb-true 1 (length nodes) (shown (roomTest (length nodes) 1) [] (planted-passed e) refl .0)
+  planted-room e = leb-true 1 (length nodes) (shown (roomTest (length nodes) 1) [] (shown (setTest unused) _ (planted-passed e) refl .1) refl .0)
 
-module _ (nodes : List Node) (count parent action : ℕ) {r : Inserted} (s : InsertAnswer (isSound nodes count) (length nodes) count parent action r) where
-  pub inserts : {after : List Node} (b : Bool) → isInserted r ≡ b → after ≡ cond b (insertedOf nodes count parent action) nodes
-      → Inserts nodes count parent action r after
+module _ (nodes : List Node) (count parent action unused : ℕ) {r : Inserted} (s : InsertAnswer (isSound nodes count) (length nodes) count parent action unused r) where
+  pub inserts : {after : List Node} (b : Bool) → isInserted r ≡ b → after ≡ cond b (insertedOf nodes count parent action unused) nodes
+      → Inserts nodes count parent action unused r after
   inserts b e w =
-      let f : Inserted → List Node = λ x. cond (isInserted x) (insertedOf nodes count parent action) nodes in
+      let f : Inserted → List Node = λ x. cond (isInserted x) (insertedOf nodes count parent action unused) nodes in
       record {
         says = s;
-        records = w ∙ ap (λ (x : Bool). cond x (insertedOf nodes count parent action) nodes) (sym e)
-            ∙ ap f (s .same) ∙ judged-map f _ _ (insertTests nodes count parent action);
+        records = w ∙ ap (λ (x : Bool). cond x (insertedOf nodes count parent action unused) nodes) (sym e)
+            ∙ ap f (s .same) ∙ judged-map f _ _ (insertTests nodes count parent action unused);
       }
 
-  pub inserted-passed : isInserted r ≡ true → Passed ≡ checksOf (insertTests nodes count parent action)
-  inserted-passed e = let-through (insertTests nodes count parent action)
-      (sym (judged-map isInserted _ _ (insertTests nodes count parent action)) ∙ ap isInserted (sym (s .same)) ∙ e)
+  pub inserted-passed : isInserted r ≡ true → Passed ≡ checksOf (insertTests nodes count parent action unused)
+  inserted-passed e = let-through (insertTests nodes count parent action unused)
+      (sym (judged-map isInserted _ _ (insertTests nodes count parent action unused)) ∙ ap isInserted (sym (s .same)) ∙ e)
 
   pub inserted-room : isInserted r ≡ true → count < length nodes
   inserted-room e =
-      let is = shown (actionTest action) _ (inserted-passed e) refl in
+      let moves = shown (setTest unused) _ (inserted-passed e) refl in
+      let is = shown (actionTest action) _ (moves .1) refl in
       let tree = shown (treeTest nodes count) _ (is .1) refl in
       let below = shown (nodeTest count parent) _ (tree .1) refl in
       let room : count + 1 ≤ length nodes = leb-true (count + 1) (length nodes) (shown (roomTest (length nodes) (count + 1)) [] (below .1) refl .0) in
@@ -76,17 +78,17 @@ module _ (nodes : List Node) (count parent action : ℕ) {r : Inserted} (s : Ins
 
 -- ---- what the entries accept leaves a sound tree
 
-pub planted-kept : (nodes : List Node) {r : Planted} {after : List Node} → Plants nodes r after → isPlanted r ≡ true → isSound after newCount ≡ true
-planted-kept nodes p e =
-    let passed = planted-passed nodes (p .says) e in
-    ap (λ (l : List Node). isSound l newCount) (p .records ∙ sym (judged-passed _ _ (newTests nodes) passed)) ∙ new-kept nodes passed
+pub planted-kept : (nodes : List Node) (unused : ℕ) {r : Planted} {after : List Node} → Plants nodes unused r after → isPlanted r ≡ true → isSound after newCount ≡ true
+planted-kept nodes unused p e =
+    let passed = planted-passed nodes unused (p .says) e in
+    ap (λ (l : List Node). isSound l newCount) (p .records ∙ sym (judged-passed _ _ (newTests nodes unused) passed)) ∙ new-kept nodes unused passed
 
-pub inserted-kept : (nodes : List Node) (count parent action : ℕ) {r : Inserted} {after : List Node}
-    → Inserts nodes count parent action r after → isInserted r ≡ true → isSound after (count + 1) ≡ true
-inserted-kept nodes count parent action i e =
-    let passed = inserted-passed nodes count parent action (i .says) e in
-    ap (λ (l : List Node). isSound l (count + 1)) (i .records ∙ sym (judged-passed _ _ (insertTests nodes count parent action) passed))
-    ∙ insert-kept nodes count parent action passed
+pub inserted-kept : (nodes : List Node) (count parent action unused : ℕ) {r : Inserted} {after : List Node}
+    → Inserts nodes count parent action unused r after → isInserted r ≡ true → isSound after (count + 1) ≡ true
+inserted-kept nodes count parent action unused i e =
+    let passed = inserted-passed nodes count parent action unused (i .says) e in
+    ap (λ (l : List Node). isSound l (count + 1)) (i .records ∙ sym (judged-passed _ _ (insertTests nodes count parent action unused) passed))
+    ∙ insert-kept nodes count parent action unused passed
 
 -- ---- two runs of an entry give one answer, and leave the same records
 

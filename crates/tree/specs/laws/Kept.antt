@@ -14,6 +14,7 @@ use Rattle.refusal.specs.laws.Judge.{shown}
 use Rattle.refusal.specs.declared.Checked.the-variants.{Passed}
 use Rattle.laws.specs.Lists.{elem}
 use Rattle.action.specs.Known.{actionTest}
+use Rattle.action_set.specs.Sets.{setTest}
 use Rattle.tree.specs.declared.node.Node.{Node}
 use Rattle.tree.specs.Node.{isScore, scoreTest, touchedOf}
 use Rattle.tree.specs.Tree.{nodeAt, isSound, plantedOf, insertedOf, isAbove, pathOf, anyFull, backOf}
@@ -23,17 +24,20 @@ use Rattle.tree.specs.laws.Climb.{path-reaches}
 use Rattle.tree.specs.laws.Back.{back-on, back-off, back-differs, back-sound}
 use Rattle.tree.specs.Refusals.{treeTest, nodeTest, aboveTest, visitsTest, newCount, newTests, insertTests, backTests}
 
-pub new-kept : (nodes : List Node) → Passed ≡ checksOf (newTests nodes) → isSound (plantedOf nodes) newCount ≡ true
-new-kept nodes e = of-tree (planted-sound nodes (leb-true newCount (length nodes) (shown (roomTest (length nodes) newCount) [] e refl .0)))
+pub new-kept : (nodes : List Node) (unused : ℕ) → Passed ≡ checksOf (newTests nodes unused) → isSound (plantedOf nodes unused) newCount ≡ true
+new-kept nodes unused e =
+    let moves = shown (setTest unused) _ e refl in
+    of-tree (planted-sound nodes unused (moves .0) (leb-true newCount (length nodes) (shown (roomTest (length nodes) newCount) [] (moves .1) refl .0)))
 
-pub insert-kept : (nodes : List Node) (count parent action : ℕ) → Passed ≡ checksOf (insertTests nodes count parent action)
-    → isSound (insertedOf nodes count parent action) (count + 1) ≡ true
-insert-kept nodes count parent action e =
-    let is = shown (actionTest action) _ e refl in
+pub insert-kept : (nodes : List Node) (count parent action unused : ℕ) → Passed ≡ checksOf (insertTests nodes count parent action unused)
+    → isSound (insertedOf nodes count parent action unused) (count + 1) ≡ true
+insert-kept nodes count parent action unused e =
+    let moves = shown (setTest unused) _ e refl in
+    let is = shown (actionTest action) _ (moves .1) refl in
     let tree = shown (treeTest nodes count) _ (is .1) refl in
     let below = shown (nodeTest count parent) _ (tree .1) refl in
     let room : count + 1 ≤ length nodes = leb-true (count + 1) (length nodes) (shown (roomTest (length nodes) (count + 1)) [] (below .1) refl .0) in
-    of-tree (inserted-sound nodes count parent action (tree-of (tree .0)) (omega arith) (ltb-true parent count (below .0)) (is .0))
+    of-tree (inserted-sound nodes count parent action unused (tree-of (tree .0)) (omega arith) (ltb-true parent count (below .0)) (is .0) (moves .0))
 
 -- what the tests of a back-propagation have shown
 record Accepted (nodes : List Node) (count start target : ℕ) (score : Float) : Type 0 where

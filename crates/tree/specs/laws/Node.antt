@@ -18,7 +18,7 @@ use Rattle.laws.specs.laws.Small.{Small, of-nat-value, truncated-small, add-sma
 use Rattle.action.specs.Known.{known}
 use Rattle.tree.specs.declared.node.Node.{Node}
 use Rattle.tree.specs.Node.{plusZero, visitsMost, countMost, nodeOf, rootNode, isScore, isFull, greaterOf, touchedOf}
-use Rattle.tree.specs.Sound.{placed, isCount, within, minus, isMaximum, soundAt}
+use Rattle.tree.specs.Sound.{placed, isCount, within, minus, isMaximum, isSet, soundAt}
 use Rattle.tree.specs.laws.Float.{within-small, small-within, count-small, eq-self, eq-equals, same-value}
 use Rattle.tree.specs.laws.Float.{count-more, plus-above, zero-value, one-value, most-value}
 use Rattle.laws.specs.Floats.{float, one, minusOne}
@@ -37,18 +37,20 @@ pub record Parts (k : ℕ) (n : Node) : Type 0 where
   pub count : isCount (n .visits) ≡ true
   pub sum : within (n .«score_sum») (n .visits) ≡ true
   pub maximum : isMaximum (n .«max_score») ≡ true
+  pub moves : isSet (n .unused) ≡ true
 
 pub sound-parts : {k : ℕ} {n : Node} → soundAt k n ≡ true → Parts k n
 unfolding soundAt
 sound-parts e =
     let last = both _ _ e in
-    let third = both _ _ (last .0) in
+    let fourth = both _ _ (last .0) in
+    let third = both _ _ (fourth .0) in
     let second = both _ _ (third .0) in
-    record { place = second .0; count = second .1; sum = third .1; maximum = last .1 }
+    record { place = second .0; count = second .1; sum = third .1; maximum = fourth .1; moves = last .1 }
 
 pub sound-of : {k : ℕ} {n : Node} → Parts k n → soundAt k n ≡ true
 unfolding soundAt
-sound-of p = and-both (and-both (and-both (p .place) (p .count)) (p .sum)) (p .maximum)
+sound-of p = and-both (and-both (and-both (and-both (p .place) (p .count)) (p .sum)) (p .maximum)) (p .moves)
 
 -- ---- counts
 
@@ -87,13 +89,13 @@ count-below x e room = omega (arith, count-most x e, full)
 
 -- ---- a new record
 
-pub root-sound : soundAt 0 rootNode ≡ true
+pub root-sound : (unused : ℕ) → isSet unused ≡ true → soundAt 0 (rootNode unused) ≡ true
 unfolding soundAt isCount isMaximum ofInt le lt eq neg toUnsigned
-root-sound = refl
+root-sound unused moves = moves
 
-pub new-sound : (k parent action : ℕ) → 0 < k → parent < k → known action ≡ true → soundAt k (nodeOf parent action) ≡ true
+pub new-sound : (k parent action unused : ℕ) → 0 < k → parent < k → known action ≡ true → isSet unused ≡ true → soundAt k (nodeOf parent action unused) ≡ true
 unfolding soundAt isCount isMaximum ofInt le lt eq neg toUnsigned
-new-sound k parent action some below is = simp (ne-eqb k 0 (λ e. omega arith), lt-ltb parent k below, is)
+new-sound k parent action unused some below is moves = simp (ne-eqb k 0 (λ e. omega arith), lt-ltb parent k below, is, moves)
 
 -- ---- a visit
 
@@ -149,4 +151,5 @@ module _ (k : ℕ) (n : Node) (score : Float) (sound : soundAt k n ≡ true) (ro
         count = rw visits-more (float-count (visitsOf + 1) (omega (arith, visits-below)));
         sum = rw visits-more (is-true _ (small-within (add binary32 (n .«score_sum») score) (float (visitsOf + 1)) (visitsOf + 1) visits-value summed));
         maximum = greater-maximum (n .«max_score») score (parts .maximum) is;
+        moves = parts .moves;
       })

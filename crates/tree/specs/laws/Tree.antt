@@ -16,7 +16,7 @@ use Rattle.laws.specs.laws.Tests.{both, and-both}
 use Rattle.action.specs.Known.{known}
 use Rattle.tree.specs.declared.node.Node.{Node}
 use Rattle.tree.specs.Node.{nodeOf, rootNode}
-use Rattle.tree.specs.Sound.{soundAt}
+use Rattle.tree.specs.Sound.{isSet, soundAt}
 use Rattle.tree.specs.laws.Node.{sound-parts, root-sound, new-sound}
 use Rattle.tree.specs.Tree.{noNode, nodeAt, soundTo, isSound, plantedOf, insertedOf, Falls}
 use Rattle.tree.specs.inner.Sound.{SoundTree}
@@ -58,20 +58,20 @@ tree-falls {nodes} t k some h = parent-below k (nodeAt nodes k) some (t .each k 
 
 -- ---- a new tree, and one with a record more
 
-pub planted-sound : (nodes : List Node) → 0 < length nodes → SoundTree (plantedOf nodes) 1
-planted-sound nodes some = record { some = omega arith; room = rw length-set some; each = λ k h. first k (omega arith) }
+pub planted-sound : (nodes : List Node) (unused : ℕ) → isSet unused ≡ true → 0 < length nodes → SoundTree (plantedOf nodes unused) 1
+planted-sound nodes unused moves some = record { some = omega arith; room = rw length-set some; each = λ k h. first k (omega arith) }
   where
-    first : (k : ℕ) → k ≡ 0 → soundAt k (nodeAt (plantedOf nodes) k) ≡ true
-    first k e = rw (e, getD-set-same nodes 0 rootNode noNode some) root-sound
+    first : (k : ℕ) → k ≡ 0 → soundAt k (nodeAt (plantedOf nodes unused) k) ≡ true
+    first k e = rw (e, getD-set-same nodes 0 (rootNode unused) noNode some) (root-sound unused moves)
 
-module _ (nodes : List Node) (count parent action : ℕ) (tree : SoundTree nodes count) (room : count < length nodes)
-    (below : parent < count) (is : known action ≡ true) where
-  pub inserted-sound : SoundTree (insertedOf nodes count parent action) (count + 1)
+module _ (nodes : List Node) (count parent action unused : ℕ) (tree : SoundTree nodes count) (room : count < length nodes)
+    (below : parent < count) (is : known action ≡ true) (moves : isSet unused ≡ true) where
+  pub inserted-sound : SoundTree (insertedOf nodes count parent action unused) (count + 1)
   inserted-sound =
       record { some = omega arith; room = rw length-set (omega arith); each = λ k h. ⊎-elim (here k) (before k) (last-or-below k count (rw add-one at h)) }
     where
-      here : (k : ℕ) → k ≡ count → soundAt k (nodeAt (insertedOf nodes count parent action) k) ≡ true
-      here k e = rw (e, getD-set-same nodes count (nodeOf parent action) noNode room) (new-sound count parent action (tree .some) below is)
+      here : (k : ℕ) → k ≡ count → soundAt k (nodeAt (insertedOf nodes count parent action unused) k) ≡ true
+      here k e = rw (e, getD-set-same nodes count (nodeOf parent action unused) noNode room) (new-sound count parent action unused (tree .some) below is moves)
 
-      before : (k : ℕ) → k < count → soundAt k (nodeAt (insertedOf nodes count parent action) k) ≡ true
-      before k h = rw (getD-set-other nodes count k (nodeOf parent action) noNode (λ e. omega arith)) (tree .each k h)
+      before : (k : ℕ) → k < count → soundAt k (nodeAt (insertedOf nodes count parent action unused) k) ≡ true
+      before k h = rw (getD-set-other nodes count k (nodeOf parent action unused) noNode (λ e. omega arith)) (tree .each k h)

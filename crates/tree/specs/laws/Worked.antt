@@ -14,10 +14,10 @@ use Rattle.tree.specs.Tree.{soundTo, isSound, childrenOf, aboveIn, isAbo
 
 -- a child of the root that was visited once, with 0.5
 abbrev child : ℕ → Node
-child action = record { parent = 0; action = action; visits = one; «score_sum» = ofBits binary32 0x3f00_0000; «max_score» = ofBits binary32 0x3f00_0000 }
+child action = record { parent = 0; action = action; visits = one; «score_sum» = ofBits binary32 0x3f00_0000; «max_score» = ofBits binary32 0x3f00_0000; unused = 0 }
 
 abbrev twins : List Node
-twins = rootNode ∷ child BasicTouch ∷ child Observe ∷ []
+twins = rootNode 0 ∷ child BasicTouch ∷ child Observe ∷ []
 
 twins-sound : isSound twins 3 ≡ true
 unfolding isSound soundTo soundAt isCount isMaximum ofBits ofInt toUnsigned neg le lt eq
@@ -49,7 +49,7 @@ not-above = refl
 -- ---- at the bounds of one record, as bits
 
 -- +0 stays when -0 comes, and -0 is a score
-zero-stays : toBits binary32 (touchedOf rootNode (ofBits binary32 0x8000_0000) .«max_score») ≡ 0
+zero-stays : toBits binary32 (touchedOf (rootNode 0) (ofBits binary32 0x8000_0000) .«max_score») ≡ 0
 unfolding touchedOf toBits ofBits ofInt lt
 zero-stays = refl
 
@@ -88,3 +88,12 @@ half-a-visit = refl
 minus-zero-visits : isCount (ofBits binary32 0x8000_0000) ≡ true
 unfolding isCount ofBits ofInt toUnsigned le lt eq
 minus-zero-visits = refl
+
+-- unused moves: all 31 actions, and bit 31, which is no action's
+all-unused : soundAt 0 (rootNode 0x7fff_ffff) ≡ true
+unfolding soundAt isCount isMaximum ofInt toUnsigned neg le lt eq
+all-unused = refl
+
+bit-31-unused : soundAt 0 (rootNode 0x8000_0000) ≡ false
+unfolding soundAt isCount isMaximum ofInt toUnsigned neg le lt eq
+bit-31-unused = refl

@@ -4,6 +4,7 @@ use lib.ListN.{length, set}
 use contract.Running.{tablesOf}
 use Rattle.refusal.specs.laws.Judge.{shown}
 use Rattle.action.specs.Known.{actionTest}
+use Rattle.action_set.specs.Sets.{setTest}
 use Rattle.tree.specs.declared.node.Node.{Node}
 use Rattle.tree.specs.declared.grow.Inserted.{Inserted}
 use Rattle.tree.specs.Tree.{isSound}
@@ -29,9 +30,10 @@ use Rattle.tree.proofs.grow.insert.Key as insert
 use Rattle.tree.proofs.grow.insert.Statement as stated
 use Rattle.tree.proofs.grow.insert.Code as code
 
-inserted-below : (nodes : List Node) (count parent action : ℕ) {r : Inserted} → InsertAnswer (isSound nodes count) (length nodes) count parent action r → isInserted r ≡ true → parent < count
-inserted-below nodes count parent action s e =
-    let is = shown (actionTest action) _ (inserted-passed nodes count parent action s e) refl in
+inserted-below : (nodes : List Node) (count parent action unused : ℕ) {r : Inserted} → InsertAnswer (isSound nodes count) (length nodes) count parent action unused r → isInserted r ≡ true → parent < count
+inserted-below nodes count parent action unused s e =
+    let moves = shown (setTest unused) _ (inserted-passed nodes count parent action unused s e) refl in
+    let is = shown (actionTest action) _ (moves .1) refl in
     let tree = shown (treeTest nodes count) _ (is .1) refl in
     ltb-true parent count (shown (nodeTest count parent) _ (tree .1) refl .0)
 
@@ -48,24 +50,25 @@ insert-spec 𝓤 H 𝓜 𝓖 𝓡 =
     let count : ℕ = a .0 in
     let parent : ℕ = a .1 .0 in
     let action : ℕ = a .1 .1 .0 in
+    let unused : ℕ = a .1 .1 .1 .0 in
     reborrows ! (S .room .0) refl refl refl refl refl refl refl refl $
     calls-shared 𝓣 S ys ! then is-sound′ scans (count, tt) (are .0, tt) same tt (λ _ _. opd ! refl & opd ! refl & no-more !) (λ s s-is s-ty s-said. lands-in ! refl (s-ty .0) $
     let fits : s ≡ true → count + 1 < 2 ^ 64 = λ sound. let within : count ≤ length ys = tree-of (sym s-said ∙ sound) .room in omega (arith, within, same, S .room .1) in
     sets ! (of-opd ! (part ! refl refl refl refl)) refl (tt, record { fits = S .room .0 }) $
-    calls-plain ! 𝓣 then insert-answer′ answers (s, (S .count, a)) (s-is, ((refl, S .room .0), are)) fits (λ _. opd ! refl & opd ! refl & opd ! refl & opd ! refl & opd ! refl & no-more !) (λ r r-is r-ty r-said. lands-in ! refl (r-ty .0) $
-    let answer : InsertAnswer (isSound ys count) (length ys) count parent action r =
-    subst (λ (b : Bool). InsertAnswer b (length ys) count parent action r) s-said (subst (λ (m : ℕ). InsertAnswer s m count parent action r) (sym same) r-said) in
+    calls-plain ! 𝓣 then insert-answer′ answers (s, (S .count, a)) (s-is, ((refl, S .room .0), are)) fits (λ _. opd ! refl & opd ! refl & opd ! refl & opd ! refl & opd ! refl & opd ! refl & no-more !) (λ r r-is r-ty r-said. lands-in ! refl (r-ty .0) $
+    let answer : InsertAnswer (isSound ys count) (length ys) count parent action unused r =
+    subst (λ (b : Bool). InsertAnswer b (length ys) count parent action unused r) s-said (subst (λ (m : ℕ). InsertAnswer s m count parent action unused r) (sym same) r-said) in
     calls-plain ! 𝓣 then is-inserted′ tells (r, tt) (r-is, tt) tt (λ _. opd ! refl & no-more !) (λ b b-is b-ty b-said. lands-in ! refl (b-ty .0) $
     sets ! (un ! (opd ! refl) tt) refl (tt, tt) $
     guards ! (opd ! refl)
-    (λ no G out _. sets ! (of-opd ! (opd ! refl)) refl (r-ty .0) $ returns ! Q out refl refl $ return r ys r-is same (inserts ys count parent action answer false (sym b-said ∙ not-true _ no) refl))
+    (λ no G out _. sets ! (of-opd ! (opd ! refl)) refl (r-ty .0) $ returns ! Q out refl refl $ return r ys r-is same (inserts ys count parent action unused answer false (sym b-said ∙ not-true _ no) refl))
     (λ yes.
     let accepted : isInserted r ≡ true = sym b-said ∙ not-false _ yes in
-    let below : parent < count = inserted-below ys count parent action answer accepted in
-    let room : count < length ys = inserted-room ys count parent action answer accepted in
-    calls-plain ! 𝓣 then new′ makes (a .1) (are .1) tt (λ _. opd ! refl & opd ! refl & no-more !) (λ n n-is n-ty n-said. lands-in ! refl (n-ty .0) $
+    let below : parent < count = inserted-below ys count parent action unused answer accepted in
+    let room : count < length ys = inserted-room ys count parent action unused answer accepted in
+    calls-plain ! 𝓣 then new′ makes (a .1) (are .1) tt (λ _. opd ! refl & opd ! refl & opd ! refl & no-more !) (λ n n-is n-ty n-said. lands-in ! refl (n-ty .0) $
     reborrows ! (S .room .0) refl refl refl refl refl refl refl refl $
     -- the place is read off the code: that it is the count is what the records at exit show
     calls-mut 𝓣 S ys ! then put-node′ puts (_, (n, tt)) ((refl, omega (arith, are .0 .1, below)), (n-is, tt)) same (omega (arith, room, below)) (λ _ _. opd ! refl & opd ! refl & opd ! refl & no-more !) (λ _ zs _ ty same′ put. lands-in ! refl (ty .0) $
     sets ! (of-opd ! (opd ! refl)) refl (r-ty .0) $ returns ! Q refl refl refl $
-    return r zs r-is same′ (inserts ys count parent action answer true accepted (put ∙ ap (λ (x : Node). set ys count x) n-said)))))))))
+    return r zs r-is same′ (inserts ys count parent action unused answer true accepted (put ∙ ap (λ (x : Node). set ys count x) n-said)))))))))

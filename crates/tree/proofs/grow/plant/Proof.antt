@@ -31,16 +31,16 @@ plant-spec 𝓤 H 𝓜 𝓖 𝓡 =
     let puts = cited 𝓤 H _ 𝓜 𝓡 code.env put-node.name put-node.routine code.calls-tree·records·put-node (put-node-thm.met 𝓤 H 𝓜 𝓖 𝓡) in
     mut-proved 𝓤 H 𝓜 𝓖 𝓡 code.env plant.name code.function _ _ (code.unfolded 𝓤 H 𝓜 𝓡) plant′ refl (λ _ _ _ _ ty. ty) (λ S ys a are same pre bs Q return.
     sets ! (of-opd ! (part ! refl refl refl refl)) refl (tt, record { fits = S .room .0 }) $
-    calls-plain ! 𝓣 then plant-answer′ answers (S .count, tt) ((refl, S .room .0), tt) tt (λ _. opd ! refl & no-more !) (λ r r-is r-ty r-said. lands-in ! refl (r-ty .0) $
-    let answer : PlantAnswer (length ys) r = subst (λ (m : ℕ). PlantAnswer m r) (sym same) r-said in
+    calls-plain ! 𝓣 then plant-answer′ answers (S .count, a) ((refl, S .room .0), are) tt (λ _. opd ! refl & opd ! refl & no-more !) (λ r r-is r-ty r-said. lands-in ! refl (r-ty .0) $
+    let answer : PlantAnswer (length ys) (a .0) r = subst (λ (m : ℕ). PlantAnswer m (a .0) r) (sym same) r-said in
     calls-plain ! 𝓣 then is-planted′ tells (r, tt) (r-is, tt) tt (λ _. opd ! refl & no-more !) (λ b b-is b-ty b-said. lands-in ! refl (b-ty .0) $
     sets ! (un ! (opd ! refl) tt) refl (tt, tt) $
     guards ! (opd ! refl)
-    (λ no G out _. sets ! (of-opd ! (opd ! refl)) refl (r-ty .0) $ returns ! Q out refl refl $ return r ys r-is same (plants ys answer false (sym b-said ∙ not-true _ no) refl))
+    (λ no G out _. sets ! (of-opd ! (opd ! refl)) refl (r-ty .0) $ returns ! Q out refl refl $ return r ys r-is same (plants ys (a .0) answer false (sym b-said ∙ not-true _ no) refl))
     (λ yes.
     let accepted : isPlanted r ≡ true = sym b-said ∙ not-false _ yes in
-    calls-plain ! 𝓣 then root′ makes tt tt tt (λ _. no-more !) (λ n n-is n-ty n-said. lands-in ! refl (n-ty .0) $
+    calls-plain ! 𝓣 then root′ makes a are tt (λ _. opd ! refl & no-more !) (λ n n-is n-ty n-said. lands-in ! refl (n-ty .0) $
     reborrows ! (S .room .0) refl refl refl refl refl refl refl refl $
-    calls-mut 𝓣 S ys ! then put-node′ puts (0, (n, tt)) ((refl, lit< tt), (n-is, tt)) same (planted-room ys answer accepted) (λ _ _. opd ! refl & lit ! tt & opd ! refl & no-more !) (λ _ zs _ ty same′ put. lands-in ! refl (ty .0) $
+    calls-mut 𝓣 S ys ! then put-node′ puts (0, (n, tt)) ((refl, lit< tt), (n-is, tt)) same (planted-room ys (a .0) answer accepted) (λ _ _. opd ! refl & lit ! tt & opd ! refl & no-more !) (λ _ zs _ ty same′ put. lands-in ! refl (ty .0) $
     sets ! (of-opd ! (opd ! refl)) refl (r-ty .0) $ returns ! Q refl refl refl $
-    return r zs r-is same′ (plants ys answer true accepted (put ∙ ap (λ (x : Node). set ys 0 x) n-said))))))))
+    return r zs r-is same′ (plants ys (a .0) answer true accepted (put ∙ ap (λ (x : Node). set ys 0 x) n-said))))))))

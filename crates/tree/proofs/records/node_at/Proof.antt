@@ -1,5 +1,5 @@
--- `tree::records::node_at` meets its contract: a walk of its MIR, by hand. The place of `nodes[k]` is k * 24 past the pointer.
--- The code has no check of the bound: it is the contract's to ask. That k * 24 does not wrap follows from the slice's room.
+-- `tree::records::node_at` meets its contract: a walk of its MIR, by hand. The place of `nodes[k]` is k * 32 past the pointer.
+-- The code has no check of the bound: it is the contract's to ask. That k * 32 does not wrap follows from the slice's room.
 -- Assumes nothing.
 use Prim.Native.Nat.{_*_}
 use contract.Running.{tablesOf}
@@ -17,7 +17,7 @@ pub node-at-spec : {M : Type 1} → stated.statement M
 unfolding code.routine tablesOf
 node-at-spec 𝓤 H 𝓜 𝓖 𝓡 =
     shr-proved 𝓤 H 𝓜 𝓖 𝓡 code.env node-at.name code.function _ _ (code.unfolded 𝓤 H 𝓜 𝓡) node-at′ refl (λ _ _ _ _ ty. ty) (λ S ys a are same pre bs Q return.
-    let fits : a .0 * 24 < 2 ^ 64 = omega (arith, pre, same, S .room .1) in
+    let fits : a .0 * 32 < 2 ^ 64 = omega (arith, pre, same, S .room .1) in
     sets ! (bin ! (opd ! refl) (lit ! tt) (record { fits = fits })) refl (tt, record { fits = fits }) $
     sets ! (bin ! (part ! refl refl refl refl) (opd ! refl) tt) refl (tt, tt) $
     reads-at ! node′ (λ _ _ _ _. refl) (LL.copy T.the-type T′.the-copy 𝓤 H (𝓖 .A) (givenOf 𝓤 H 𝓜 𝓖)) S ys (a .0) noNode pre same refl refl (λ ty. ty .0) (λ n-is n-ty.

@@ -1,5 +1,5 @@
--- `tree::records::put_node` meets its contract: a walk of its MIR, by hand. The place of `nodes[k]` is k * 24 past the pointer.
--- The code has no check of the bound: it is the contract's to ask. That k * 24 does not wrap follows from the slice's room.
+-- `tree::records::put_node` meets its contract: a walk of its MIR, by hand. The place of `nodes[k]` is k * 32 past the pointer.
+-- The code has no check of the bound: it is the contract's to ask. That k * 32 does not wrap follows from the slice's room.
 -- Assumes nothing.
 use Prim.Native.Nat.{_*_}
 use lib.ListN.{length-set}
@@ -15,7 +15,7 @@ pub put-node-spec : {M : Type 1} → stated.statement M
 unfolding code.routine tablesOf
 put-node-spec 𝓤 H 𝓜 𝓖 𝓡 =
     mut-proved 𝓤 H 𝓜 𝓖 𝓡 code.env put-node.name code.function _ _ (code.unfolded 𝓤 H 𝓜 𝓡) put-node′ refl (λ _ _ _ _ ty. ty) (λ S ys a are same pre bs Q return.
-    let fits : a .0 * 24 < 2 ^ 64 = omega (arith, pre, same, S .room .1) in
+    let fits : a .0 * 32 < 2 ^ 64 = omega (arith, pre, same, S .room .1) in
     sets ! (bin ! (opd ! refl) (lit ! tt) (record { fits = fits })) refl (tt, record { fits = fits }) $
     sets ! (bin ! (part ! refl refl refl refl) (opd ! refl) tt) refl (tt, tt) $
     writes-at ! node′ (λ _ _ _ _. refl) S ys (a .0) noNode (a .1 .0) pre same (are .1 .0) refl refl (λ ty. ty .0)

@@ -13,5 +13,6 @@ is-sound-at-spec =
     (λ c κs. tt)
     (λ c κs. tt)
     (λ c κs. tt)
+    (λ c κs. tt)
     (λ c.
-    simp (c .is-maximum .ensures, c .before .is-within .ensures, c .before .before .is-count .ensures, c .before .before .before .is-placed .ensures)))
+    simp (c .is-set .ensures, c .before .is-maximum .ensures, c .before .before .is-within .ensures, c .before .before .before .is-count .ensures, c .before .before .before .before .is-placed .ensures)))
