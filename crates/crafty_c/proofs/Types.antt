@@ -13,7 +13,7 @@ use Rattle.crafty_c.proofs.answer.CraftyAnswer as A
 use Rattle.crafty_c.proofs.answer.CraftyAnswer.Laws as A′
 use Rattle.crafty_c.proofs.trees.CraftySolution as S
 use Rattle.crafty_c.proofs.trees.CraftySolution.Laws as S′
-use Rattle.walks.proofs.Values.{Datum, usize′, u8′, f32′, struct′}
+use Rattle.walks.proofs.Values.{Datum, usize′, u8′, u32′, f32′, struct′}
 use Rattle.walks.proofs.Functions.{nothing-asked, MutFn, BothFn, PlainFn}
 
 -- ---- types
@@ -44,10 +44,15 @@ solved-answer′ = record { takes = solved′ ∷ []; gives = solution′; asks 
 -- ---- the functions
 
 abbrev pub tree-new′ : MutFn T.the-row
-tree-new′ = record { takes = []; gives = answer′; asks = nothing-asked; says = λ xs a r zs. TellsPlanted xs r zs }
+tree-new′ = record { takes = u32′ ∷ []; gives = answer′; asks = nothing-asked; says = λ xs a r zs. TellsPlanted xs (a .0) r zs }
 
 abbrev pub tree-insert′ : MutFn T.the-row
-tree-insert′ = record { takes = usize′ ∷ usize′ ∷ u8′ ∷ []; gives = answer′; asks = nothing-asked; says = λ xs a r zs. TellsInserted xs (a .0) (a .1 .0) (a .1 .1 .0) r zs }
+tree-insert′ = record {
+  takes = usize′ ∷ usize′ ∷ u8′ ∷ u32′ ∷ [];
+  gives = answer′;
+  asks = nothing-asked;
+  says = λ xs a r zs. TellsInserted xs (a .0) (a .1 .0) (a .1 .1 .0) (a .1 .1 .1 .0) r zs;
+}
 
 abbrev pub tree-backpropagate′ : MutFn T.the-row
 tree-backpropagate′ = record { takes = usize′ ∷ usize′ ∷ usize′ ∷ f32′ ∷ []; gives = answer′; asks = nothing-asked; says = λ xs a r zs. TellsPropagated xs (a .0) (a .1 .0) (a .1 .1 .0) (a .1 .1 .1 .0) r zs }

@@ -65,12 +65,12 @@ solutionAnswered = record { told = solutionReport; refused = solutionRefused; re
 
 -- ---- the functions
 
-abbrev pub TellsPlanted : List Node → CraftyAnswer → List Node → Type 0
-TellsPlanted nodes r after = Changes answered (newTests nodes) (doneOf newCount) nodes (plantedOf nodes) r after
+abbrev pub TellsPlanted : List Node → ℕ → CraftyAnswer → List Node → Type 0
+TellsPlanted nodes unused r after = Changes answered (newTests nodes unused) (doneOf newCount) nodes (plantedOf nodes unused) r after
 
-abbrev pub TellsInserted : List Node → ℕ → ℕ → ℕ → CraftyAnswer → List Node → Type 0
-TellsInserted nodes count parent action r after =
-    Changes answered (insertTests nodes count parent action) (doneOf count) nodes (insertedOf nodes count parent action) r after
+abbrev pub TellsInserted : List Node → ℕ → ℕ → ℕ → ℕ → CraftyAnswer → List Node → Type 0
+TellsInserted nodes count parent action unused r after =
+    Changes answered (insertTests nodes count parent action unused) (doneOf count) nodes (insertedOf nodes count parent action unused) r after
 
 abbrev pub TellsPropagated : List Node → ℕ → ℕ → ℕ → Float → CraftyAnswer → List Node → Type 0
 TellsPropagated nodes count start target score r after =

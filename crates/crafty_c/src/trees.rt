@@ -75,10 +75,10 @@ fn solved_answer(solved: Solved) -> CraftySolution
 }
 
 #[no_mangle]
-pub extern "C" fn crafty_tree_new(nodes: &mut [Node]) -> CraftyAnswer
-    ensures { λ r. ⌜ TellsPlanted (now (nodes .entry)) r (now (nodes .exit)) ⌝ }
+pub extern "C" fn crafty_tree_new(nodes: &mut [Node], unused: u32) -> CraftyAnswer
+    ensures { λ r. ⌜ TellsPlanted (now (nodes .entry)) unused r (now (nodes .exit)) ⌝ }
 {
-    let planted = tree::plant(nodes);
+    let planted = tree::plant(nodes, unused);
     planted_answer(planted)
 }
 
@@ -88,10 +88,11 @@ pub extern "C" fn crafty_tree_insert(
     count: usize,
     parent: usize,
     action: u8,
+    unused: u32,
 ) -> CraftyAnswer
-    ensures { λ r. ⌜ TellsInserted (now (nodes .entry)) count parent action r (now (nodes .exit)) ⌝ }
+    ensures { λ r. ⌜ TellsInserted (now (nodes .entry)) count parent action unused r (now (nodes .exit)) ⌝ }
 {
-    let inserted = tree::insert(nodes, count, parent, action);
+    let inserted = tree::insert(nodes, count, parent, action, unused);
     inserted_answer(inserted)
 }
 

@@ -171,11 +171,11 @@ one-replay-output input out = writes
 
 -- ---- the tree
 
-pub one-plant : (nodes : List Node) → OneOutcome (Plants nodes)
-one-plant nodes = changes
+pub one-plant : (nodes : List Node) (unused : ℕ) → OneOutcome (Plants nodes unused)
+one-plant nodes unused = changes
 
-pub one-insert : (nodes : List Node) (count parent action : ℕ) → OneOutcome (Inserts nodes count parent action)
-one-insert nodes count parent action = changes
+pub one-insert : (nodes : List Node) (count parent action unused : ℕ) → OneOutcome (Inserts nodes count parent action unused)
+one-insert nodes count parent action unused = changes
 
 pub one-record-at : (nodes : List Node) (count k : ℕ) → OneAnswer (Looks nodes count k)
 one-record-at nodes count k = says
@@ -189,11 +189,11 @@ one-backpropagate nodes count start target score = changes
 pub one-solution : (nodes : List Node) (count : ℕ) (out : List ℕ) → OneOutcome (Solves nodes count out)
 one-solution nodes count out = writes
 
-pub one-Node-new : (parent action : ℕ) → OneAnswer (λ (r : Node). r ≡ nodeOf parent action)
-one-Node-new parent action = equals
+pub one-Node-new : (parent action unused : ℕ) → OneAnswer (λ (r : Node). r ≡ nodeOf parent action unused)
+one-Node-new parent action unused = equals
 
-pub one-Node-root : OneAnswer (λ (r : Node). r ≡ rootNode)
-one-Node-root = equals
+pub one-Node-root : (unused : ℕ) → OneAnswer (λ (r : Node). r ≡ rootNode unused)
+one-Node-root unused = equals
 
 -- ---- a refusal's number and value
 

@@ -142,12 +142,12 @@ total-replay-output input out = writes-refuses
 
 -- ---- the tree
 
-pub total-plant : (nodes : List Node) → RefusesWhole planted (6 ∷ []) nodes (Plants nodes)
-total-plant nodes = changes-refuses
+pub total-plant : (nodes : List Node) (unused : ℕ) → RefusesWhole planted (1 ∷ 6 ∷ []) nodes (Plants nodes unused)
+total-plant nodes unused = changes-refuses
 
-pub total-insert : (nodes : List Node) (count parent action : ℕ)
-    → RefusesWhole inserted (3 ∷ 7 ∷ 8 ∷ 6 ∷ []) nodes (Inserts nodes count parent action)
-total-insert nodes count parent action = changes-refuses
+pub total-insert : (nodes : List Node) (count parent action unused : ℕ)
+    → RefusesWhole inserted (1 ∷ 3 ∷ 7 ∷ 8 ∷ 6 ∷ []) nodes (Inserts nodes count parent action unused)
+total-insert nodes count parent action unused = changes-refuses
 
 pub total-record-at : (nodes : List Node) (count k : ℕ) → Refuses recorded (7 ∷ 8 ∷ []) (Looks nodes count k)
 total-record-at nodes count k = says-refuses

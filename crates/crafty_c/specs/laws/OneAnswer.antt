@@ -31,11 +31,11 @@ one-crafty-write-list list out = writes
 pub one-crafty-macro-time : (list : List ℕ) → OneAnswer (TellsSeconds list)
 one-crafty-macro-time list = says
 
-pub one-crafty-tree-new : (nodes : List Node) → OneOutcome (TellsPlanted nodes)
-one-crafty-tree-new nodes = changes
+pub one-crafty-tree-new : (nodes : List Node) (unused : ℕ) → OneOutcome (TellsPlanted nodes unused)
+one-crafty-tree-new nodes unused = changes
 
-pub one-crafty-tree-insert : (nodes : List Node) (count parent action : ℕ) → OneOutcome (TellsInserted nodes count parent action)
-one-crafty-tree-insert nodes count parent action = changes
+pub one-crafty-tree-insert : (nodes : List Node) (count parent action unused : ℕ) → OneOutcome (TellsInserted nodes count parent action unused)
+one-crafty-tree-insert nodes count parent action unused = changes
 
 pub one-crafty-tree-backpropagate : (nodes : List Node) (count start target : ℕ) (score : Float)
     → OneOutcome (TellsPropagated nodes count start target score)

@@ -34,12 +34,12 @@ total-crafty-write-list list out = writes-refuses
 pub total-crafty-macro-time : (list : List ℕ) → Refuses answered (13 ∷ 3 ∷ []) (TellsSeconds list)
 total-crafty-macro-time list = says-refuses
 
-pub total-crafty-tree-new : (nodes : List Node) → RefusesWhole answered (6 ∷ []) nodes (TellsPlanted nodes)
-total-crafty-tree-new nodes = changes-refuses
+pub total-crafty-tree-new : (nodes : List Node) (unused : ℕ) → RefusesWhole answered (1 ∷ 6 ∷ []) nodes (TellsPlanted nodes unused)
+total-crafty-tree-new nodes unused = changes-refuses
 
-pub total-crafty-tree-insert : (nodes : List Node) (count parent action : ℕ)
-    → RefusesWhole answered (3 ∷ 7 ∷ 8 ∷ 6 ∷ []) nodes (TellsInserted nodes count parent action)
-total-crafty-tree-insert nodes count parent action = changes-refuses
+pub total-crafty-tree-insert : (nodes : List Node) (count parent action unused : ℕ)
+    → RefusesWhole answered (1 ∷ 3 ∷ 7 ∷ 8 ∷ 6 ∷ []) nodes (TellsInserted nodes count parent action unused)
+total-crafty-tree-insert nodes count parent action unused = changes-refuses
 
 pub total-crafty-tree-backpropagate : (nodes : List Node) (count start target : ℕ) (score : Float)
     → RefusesWhole answered (7 ∷ 8 ∷ 9 ∷ 10 ∷ 11 ∷ []) nodes (TellsPropagated nodes count start target score)

@@ -27,16 +27,17 @@ planted-number : (r : Planted) → reportIn (plantedAnswer r) ≡ planted .told 
 planted-number (P.Count count) = refl
 planted-number (P.Refused x) = report-in x
 
-pub planted-told : (nodes : List Node) {r : Planted} {after : List Node} → Plants nodes r after → TellsPlanted nodes (plantedAnswer r) after
-planted-told nodes w = record { says = says-told answered planted plantedAnswer (λ x. refl) planted-number (w .says); records = w .records }
+pub planted-told : (nodes : List Node) (unused : ℕ) {r : Planted} {after : List Node} → Plants nodes unused r after
+    → TellsPlanted nodes unused (plantedAnswer r) after
+planted-told nodes unused w = record { says = says-told answered planted plantedAnswer (λ x. refl) planted-number (w .says); records = w .records }
 
 inserted-number : (r : Inserted) → reportIn (insertedAnswer r) ≡ inserted .told r
 inserted-number (I.At number count) = refl
 inserted-number (I.Refused x) = report-in x
 
-pub inserted-told : (nodes : List Node) (count parent action : ℕ) {r : Inserted} {after : List Node} → Inserts nodes count parent action r after
-    → TellsInserted nodes count parent action (insertedAnswer r) after
-inserted-told nodes count parent action w =
+pub inserted-told : (nodes : List Node) (count parent action unused : ℕ) {r : Inserted} {after : List Node} → Inserts nodes count parent action unused r after
+    → TellsInserted nodes count parent action unused (insertedAnswer r) after
+inserted-told nodes count parent action unused w =
     record { says = says-told answered inserted insertedAnswer (λ x. refl) inserted-number (w .says); records = w .records }
 
 propagated-number : (r : Propagated) → reportIn (propagatedAnswer r) ≡ propagated .told r

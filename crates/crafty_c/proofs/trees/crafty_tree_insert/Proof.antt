@@ -23,6 +23,6 @@ crafty-tree-insert-spec 𝓤 H 𝓜 𝓖 𝓡 =
     let tells = cited 𝓤 H _ 𝓜 𝓡 code.env inserted-answer.name inserted-answer.routine code.calls-crafty-c·trees·inserted-answer (inserted-answer-thm.met 𝓤 H 𝓜 𝓖 𝓡) in
     mut-proved 𝓤 H 𝓜 𝓖 𝓡 code.env crafty-tree-insert.name code.function _ _ (code.unfolded 𝓤 H 𝓜 𝓡) tree-insert′ refl (λ _ _ _ _ ty. ty) (λ S ys a are same pre bs Q return.
     reborrows ! (S .room .0) refl refl refl refl refl refl refl refl $
-    calls-mut 𝓣 S ys ! then insert′ answers a are same tt (λ _ _. opd ! refl & opd ! refl & opd ! refl & opd ! refl & no-more !) (λ x zs x-is x-ty same′ said. lands-in ! refl (x-ty .0) $
+    calls-mut 𝓣 S ys ! then insert′ answers a are same tt (λ _ _. opd ! refl & opd ! refl & opd ! refl & opd ! refl & opd ! refl & no-more !) (λ x zs x-is x-ty same′ said. lands-in ! refl (x-ty .0) $
     calls-plain ! 𝓣 then inserted-answer′ tells (x, tt) (x-is, tt) tt (λ _. opd ! refl & no-more !) (λ r r-is r-ty r-said. lands-in ! refl (r-ty .0) $
-    returns ! Q refl refl refl $ return r zs r-is same′ (subst (λ (y : CraftyAnswer). TellsInserted ys (a .0) (a .1 .0) (a .1 .1 .0) y zs) (sym r-said) (inserted-told ys (a .0) (a .1 .0) (a .1 .1 .0) said)))))
+    returns ! Q refl refl refl $ return r zs r-is same′ (subst (λ (y : CraftyAnswer). TellsInserted ys (a .0) (a .1 .0) (a .1 .1 .0) (a .1 .1 .1 .0) y zs) (sym r-said) (inserted-told ys (a .0) (a .1 .0) (a .1 .1 .0) (a .1 .1 .1 .0) said)))))

@@ -23,6 +23,6 @@ crafty-tree-new-spec 𝓤 H 𝓜 𝓖 𝓡 =
     let tells = cited 𝓤 H _ 𝓜 𝓡 code.env planted-answer.name planted-answer.routine code.calls-crafty-c·trees·planted-answer (planted-answer-thm.met 𝓤 H 𝓜 𝓖 𝓡) in
     mut-proved 𝓤 H 𝓜 𝓖 𝓡 code.env crafty-tree-new.name code.function _ _ (code.unfolded 𝓤 H 𝓜 𝓡) tree-new′ refl (λ _ _ _ _ ty. ty) (λ S ys a are same pre bs Q return.
     reborrows ! (S .room .0) refl refl refl refl refl refl refl refl $
-    calls-mut 𝓣 S ys ! then plant′ answers a are same tt (λ _ _. opd ! refl & no-more !) (λ x zs x-is x-ty same′ said. lands-in ! refl (x-ty .0) $
+    calls-mut 𝓣 S ys ! then plant′ answers a are same tt (λ _ _. opd ! refl & opd ! refl & no-more !) (λ x zs x-is x-ty same′ said. lands-in ! refl (x-ty .0) $
     calls-plain ! 𝓣 then planted-answer′ tells (x, tt) (x-is, tt) tt (λ _. opd ! refl & no-more !) (λ r r-is r-ty r-said. lands-in ! refl (r-ty .0) $
-    returns ! Q refl refl refl $ return r zs r-is same′ (subst (λ (y : CraftyAnswer). TellsPlanted ys y zs) (sym r-said) (planted-told ys said)))))
+    returns ! Q refl refl refl $ return r zs r-is same′ (subst (λ (y : CraftyAnswer). TellsPlanted ys (a .0) y zs) (sym r-said) (planted-told ys (a .0) said)))))
