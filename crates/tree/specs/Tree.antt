@@ -86,23 +86,30 @@ backOf nodes start target score = touchedAll nodes (pathOf nodes start target) s
 
 -- ---- `solution`: from record 0 on the best child, until there is none
 
--- child j gives way to child k: a smaller max_score, or the same and not a later record
-abbrev pub yields : List Node → ℕ → ℕ → Bool
-yields nodes k j = lt (nodeAt nodes j .«max_score») (nodeAt nodes k .«max_score») || (eq (nodeAt nodes j .«max_score») (nodeAt nodes k .«max_score») && leb j k)
+-- child j gives way to child k, by what each is rated: a smaller rate, or the same and not a later record
+abbrev pub yields : (ℕ → Float) → ℕ → ℕ → Bool
+yields rate k j = lt (rate j) (rate k) || (eq (rate j) (rate k) && leb j k)
 
 -- each of these does
-unfoldable pub allYield : List Node → ℕ → List ℕ → Bool
-allYield nodes k [] = true
-allYield nodes k (j ∷ rest) = yields nodes k j && allYield nodes k rest
+unfoldable pub allYield : (ℕ → Float) → ℕ → List ℕ → Bool
+allYield rate k [] = true
+allYield rate k (j ∷ rest) = yields rate k j && allYield rate k rest
 
 -- the one to which all give way; 0 where there is none, since record 0 is no child
-unfoldable pub bestIn : List Node → List ℕ → List ℕ → ℕ
-bestIn nodes all [] = 0
-bestIn nodes all (k ∷ rest) = cond (allYield nodes k all) k (bestIn nodes all rest)
+unfoldable pub bestIn : (ℕ → Float) → List ℕ → List ℕ → ℕ
+bestIn rate all [] = 0
+bestIn rate all (k ∷ rest) = cond (allYield rate k all) k (bestIn rate all rest)
 
--- the child of greatest max_score, the last of equals
+-- the child of greatest rate, the last of equals
+abbrev pub bestBy : (ℕ → Float) → ℕ → List Node → ℕ → ℕ
+bestBy rate count nodes parent = bestIn rate (childrenOf count nodes parent) (childrenOf count nodes parent)
+
+-- of greatest max_score
+abbrev pub maxAt : List Node → ℕ → Float
+maxAt nodes k = nodeAt nodes k .«max_score»
+
 abbrev pub bestOf : ℕ → List Node → ℕ → ℕ
-bestOf count nodes parent = bestIn nodes (childrenOf count nodes parent) (childrenOf count nodes parent)
+bestOf count nodes parent = bestBy (maxAt nodes) count nodes parent
 
 -- 0 is no child
 abbrev pub onward : ℕ → (ℕ → List ℕ) → List ℕ

@@ -5,6 +5,7 @@ pub mod Tree
 pub mod Climb
 pub mod Back
 pub mod Children
+pub mod Yield
 pub mod Best
 pub mod Follow
 pub mod Solution

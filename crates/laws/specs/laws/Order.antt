@@ -1,6 +1,6 @@
 -- The order of floats: finite ones are in the order of the fractions, with a sign, that they are.
 -- Assumes nothing.
-use mathlib.Core.Path.{_≡_, refl, sym}
+use mathlib.Core.Path.{_≡_, refl, sym, subst}
 use mathlib.Core.Bool.{Bool, true, false, _&&_, _||_}
 use mathlib.Core.Logic.{inl, inr}
 use Prim.Native.Nat.{ℕ, _+_, _*_, _≤_, _<_, zero-le}
@@ -151,6 +151,30 @@ lt-after (fin s m e) (fin t n d) (fin u k g) p q r h l =
     not-le-of-lt less
     (leq-trans (plusBy u z) (minusBy u z) (down g) (plusBy s x) (minusBy s x) (down e) (plusBy t y) (minusBy t y) (down d) (down-pos e) b
     (le-order (fin s m e) (fin t n d) tt tt h)))))
+
+-- ---- of two one is at most the other, or above it
+
+pub not-le-lt : (x y : Float) → T (finite x) → T (finite y) → le x y ≡ false → T (lt y x)
+unfolding le lt
+not-le-lt nan y p q h = absurd p
+not-le-lt (inf s) y p q h = absurd p
+not-le-lt (fin s m e) nan p q h = absurd q
+not-le-lt (fin s m e) (inf t) p q h = absurd q
+not-le-lt (fin s m e) (fin t n d) p q h =
+    let a = m * up e * down d in
+    let b = n * up d * down e in
+    signed-lt t b s a (lt-of-not-le (λ l. subst T h (signed-le s a t b l)))
+
+pub lt-not-le : (x y : Float) → T (finite x) → T (finite y) → T (lt x y) → T (le y x) → ⊥
+unfolding le lt
+lt-not-le nan y p q h l = absurd p
+lt-not-le (inf s) y p q h l = absurd p
+lt-not-le (fin s m e) nan p q h l = absurd q
+lt-not-le (fin s m e) (inf t) p q h l = absurd q
+lt-not-le (fin s m e) (fin t n d) p q h l =
+    let a = m * up e * down d in
+    let b = n * up d * down e in
+    not-le-of-lt (lt-signed s a t b h) (le-signed t b s a l)
 
 pub lt-le : (x y : Float) → T (lt x y) → T (le x y)
 unfolding le
