@@ -16,7 +16,10 @@ const INFINITY: u32 = 0x7f80_0000;
 // 2^24: above each number of 24 digits.
 const DIGITS_END: u64 = 0x100_0000;
 
-// To half a pattern this adds half of what the exponent is counted from, and some digits: so start is within 4 % of the root.
+// The least value above 0 is 2^-149, in which all are counted.
+const LOWEST: u32 = 149;
+
+// Half of what an exponent is counted from, less some digits: with half a pattern it makes that of a number within 4 % of the root.
 const HALF_WAY: u32 = 0x1fbb_67ae;
 
 // 2^64: above the root of each f32.
@@ -76,6 +79,7 @@ fn guess_of(b: u32) -> u64
     0
 }
 
+// How far m is shifted, so that it has 47 or 48 digits and the exponent that is left is even.
 fn shift_of(zeros: u32, k: u32) -> u32
     requires { ⌜ (zeros ≤ 32) × (k < 512) ⌝ }
     ensures { λ r. ⌜ (r ≡ shiftBy zeros k) × (r ≤ 48) ⌝ }
@@ -83,14 +87,14 @@ fn shift_of(zeros: u32, k: u32) -> u32
     zeros + 15 + (k + zeros) % 2
 }
 
-// The root of m * 2^k, which like its root is counted in 2^-149.
+// The pattern of the root of m * 2^k, counted in 2^-149.
 fn root_of(m: u32, k: u32, zeros: u32, guess: u64) -> u32
     requires { ⌜ Digits m k zeros guess ⌝ }
     ensures { λ r. ⌜ (r ≡ rootOf m k) × (r < infinityBits) ⌝ }
 {
     let s = shift_of(zeros, k);
     let p = root_near((m as u64) << s, guess);
-    (k + 149 - s) / 2 * HIDDEN + p as u32
+    (k + LOWEST - s) / 2 * HIDDEN + p as u32
 }
 
 // The root's bit pattern, of one that is above 0 and below the infinity's. Guesses are for normal values, which are the usual ones.
@@ -101,7 +105,12 @@ fn root_bits(b: u32) -> u32
     if b < HIDDEN {
         return root_of(b, 0, u32::leading_zeros(b), 0);
     }
-    root_of(HIDDEN + b % HIDDEN, b / HIDDEN - 1, NORMAL_ZEROS, guess_of(b))
+    root_of(
+        HIDDEN + b % HIDDEN,
+        b / HIDDEN - 1,
+        NORMAL_ZEROS,
+        guess_of(b),
+    )
 }
 
 // Of -0 it is -0, and of a number below 0 a NaN.

@@ -3,7 +3,6 @@
 use mathlib.Core.Path.{refl, _∙_}
 use native.Mathlib.Omega.{arith}
 use lib.Dec.{lit<}
-use borrow.Author.Needs.{needs}
 use Rattle.sqrt.specs.laws.Scaled.{normal-zeros}
 use Rattle.sqrt.specs.laws.Patterns.{of-subnormal, of-normal}
 use Rattle.sqrt.proofs.root_bits.Statement.{statement}
@@ -11,15 +10,13 @@ use Rattle.sqrt.proofs.root_bits.Tie as tie
 
 root-of-requires : tie.Need-root-of-requires
 root-of-requires c κs =
-    let few = c .if1 .taken in
-    record { some = c .before .pre .0; few = omega (arith, few); exponent = lit< tt; before = refl; guessed = lit< tt }
+    record { some = c .before .pre .0; few = omega (arith, c .if1 .taken); exponent = lit< tt; before = refl; guessed = lit< tt }
 
 returns : tie.Need-returns
 returns c = (c .root-of .ensures .0 ∙ of-subnormal _ (c .before .if1 .taken), c .root-of .ensures .1)
 
 root-of-requires-2 : tie.Need-root-of-requires-2
 root-of-requires-2 c κs =
-    let b = c .before .before .args .b in
     record {
       some = omega arith;
       few = omega arith;

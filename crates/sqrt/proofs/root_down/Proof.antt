@@ -1,6 +1,9 @@
+-- `sqrt::root_down` meets its contract: r is never below the root.
+-- Assumes nothing.
 use Prim.Native.Nat.{_+_, _*_, _≤_, _<_}
 use native.Mathlib.Nat.{mul-le-mul, div-le-self}
 use native.Mathlib.Omega.{arith}
+use Rattle.sqrt.specs.Sqrt.{digitsEnd}
 use Rattle.sqrt.proofs.Newton.{newton-above, newton-below, sq-pos}
 use Rattle.sqrt.specs.laws.Cut.{cut-is, cut-lt}
 use Rattle.sqrt.proofs.root_down.Statement.{statement}
@@ -8,7 +11,7 @@ use Rattle.sqrt.proofs.root_down.Tie as tie
 
 -- r is at least the root
 abbrev Inv-loop : tie.InvT-loop
-Inv-loop n r₀ r = (n < (r + 1) * (r + 1)) × (r ≤ 16777216)
+Inv-loop n r₀ r = (n < (r + 1) * (r + 1)) × (r ≤ digitsEnd)
 
 abbrev μ-loop : tie.MeasureT-loop
 μ-loop n r₀ r = r
@@ -38,7 +41,7 @@ returns : tie.Need-returns Inv-loop μ-loop
 returns c =
     let n = c .before .before .args .n in
     let r = c .before .loop .r in
-    (cut-is n r (c .before .before .pre) (c .loop-test .left, c .before .loop .inv .0), c .loop-test .left, cut-lt n r 16777216 (c .before .before .pre) (c .loop-test .left))
+    (cut-is n r (c .before .before .pre) (c .loop-test .left, c .before .loop .inv .0), c .loop-test .left, cut-lt n r digitsEnd (c .before .before .pre) (c .loop-test .left))
 
 pub root-down-spec : {M : Type 1} → statement M
 root-down-spec =

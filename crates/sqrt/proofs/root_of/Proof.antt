@@ -1,12 +1,11 @@
 -- `sqrt::root_of` meets its contract: the shift loses no digit.
 -- Assumes nothing.
-use mathlib.Core.Path.{_≡_, refl, ap, _∙_}
+use mathlib.Core.Path.{_≡_, ap, _∙_}
 use Prim.Native.Nat.{ℕ, _*_, _%_, _^_, _≤_, _<_}
 use native.Mathlib.Nat.{mod-eq-of-lt}
 use native.Mathlib.Omega.{arith}
 use lib.Count.{leading-le}
-use borrow.Author.Needs.{needs}
-use Rattle.sqrt.specs.Sqrt.{digitsEnd, shiftBy, shift, rootNear, rootOf}
+use Rattle.sqrt.specs.Sqrt.{digitsEnd, shift, rootNear, rootOf}
 use Rattle.sqrt.specs.laws.Scaled.{scaled-lt, shift-is}
 use Rattle.sqrt.proofs.root_of.Statement.{statement}
 use Rattle.sqrt.proofs.root_of.Tie as tie

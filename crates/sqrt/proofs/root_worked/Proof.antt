@@ -1,3 +1,5 @@
+-- `sqrt::root_worked` meets its contract.
+-- Assumes nothing.
 use borrow.Author.Needs.{needs}
 use native.Mathlib.Omega.{arith}
 use Rattle.sqrt.specs.laws.Cut.{near-up, near-down}

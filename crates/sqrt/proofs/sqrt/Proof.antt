@@ -1,3 +1,5 @@
+-- `sqrt::sqrt` meets its contract, by cases of x.
+-- Assumes nothing.
 use mathlib.Core.Path.{sym, ap, _∙_, subst}
 use Prim.Native.Nat.{ℕ}
 use lib.Dec.{T}

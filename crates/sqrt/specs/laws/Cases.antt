@@ -1,4 +1,5 @@
--- `sqrtOf` by the tests that the code makes: 0 < x, x < ∞, x = 0. Assumes nothing.
+-- `sqrtOf` by the tests that the code makes: 0 < x, x < ∞, x = 0.
+-- Assumes nothing.
 use mathlib.Core.Path.{_≡_, refl}
 use Prim.Native.Nat.{ℕ, zero, suc, _*_, _<_}
 use native.Mathlib.Nat.{zero-lt-suc, mul-pos}
@@ -9,14 +10,14 @@ use lib.Dec.{T, ltb, eqb, ltb→lt, lt→ltb, eqb→eq, T-not}
 use lib.Ieee.{Float, nan, inf, fin, binary32, up, down, ofBits, toBits, lt, eq, isNan, div}
 use lib.Ieee.Fits.{and-l, and-i, eq→eqb, up-pos}
 use lib.Ieee.Positive.{positive, above}
-use Rattle.sqrt.specs.Sqrt.{rootBits, sqrtOf}
+use Rattle.sqrt.specs.Sqrt.{infinityBits, rootBits, sqrtOf}
 
 -- the two float numbers of the source, by their bit patterns
 abbrev pub nought : Float
 nought = ofBits binary32 0
 
 abbrev pub endless : Float
-endless = ofBits binary32 0x7f80_0000
+endless = ofBits binary32 infinityBits
 
 pub yes : (b : Bool) → b ≡ true → T b
 yes b e = rw e tt

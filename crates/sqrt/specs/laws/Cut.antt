@@ -8,7 +8,11 @@ use native.Mathlib.Omega.{arith}
 use mathlib.Core.Bool.{Bool, true, false, not, cond}
 use lib.Dec.{T, leb, ltb, leb→le, nleb→lt, ltb→lt, nltb→le}
 use borrow.Author.Tests.{lt-ltb, le-ltb}
-use Rattle.sqrt.specs.Sqrt.{squareEnd, digit, rootDown, nearer, rootNear}
+use Rattle.sqrt.specs.Sqrt.{digitsEnd, squareEnd, hidden, digit, rootDown, nearer, rootNear}
+
+-- 2 ^ 46: the square of the least number of 24 digits, which is 2 ^ 23
+abbrev pub squareLeast : ℕ
+squareLeast = 70368744177664
 
 -- r is the root of n cut to a whole number
 abbrev pub Cut : ℕ → ℕ → Type 0
@@ -24,7 +28,7 @@ digit-cut n r h = go (leb ((2 * r + 1) * (2 * r + 1)) n) (leb→le ((2 * r + 1) 
 quarter : (k n : ℕ) → n < 4 ^ suc k → n / 4 < 4 ^ k
 quarter k n h = let p : n < 4 * 4 ^ k = rw pow-succ' at h in omega arith
 
-pub down-cut : (k n : ℕ) → n < 4 ^ k → Cut n (rootDown k n)
+down-cut : (k n : ℕ) → n < 4 ^ k → Cut n (rootDown k n)
 unfolding rootDown
 down-cut zero n h = omega arith
 down-cut (suc k) n h = digit-cut n (rootDown k (n / 4)) (down-cut k (n / 4) (quarter k n h))
@@ -40,13 +44,13 @@ cut-le n q r h k = go (leb q r) (leb→le q r) (nleb→lt q r)
         let m : (r + 1) * (r + 1) ≤ q * q = mul-le-mul l l in
         omega arith
 
-pub cut-one : (n q r : ℕ) → Cut n q → Cut n r → q ≡ r
+cut-one : (n q r : ℕ) → Cut n q → Cut n r → q ≡ r
 cut-one n q r h k = le-antisymm (cut-le n q r h k) (cut-le n r q k h)
 
-pub cut-is : (n r : ℕ) → n < 281474976710656 → Cut n r → r ≡ rootDown 24 n
+pub cut-is : (n r : ℕ) → n < squareEnd → Cut n r → r ≡ rootDown 24 n
 cut-is n r h k = cut-one n r (rootDown 24 n) k (down-cut 24 n h)
 
--- the root is below 2 ^ j where n is below its square
+-- the root is below m where n is below the square of m
 pub cut-lt : (n r m : ℕ) → n < m * m → r * r ≤ n → r < m
 cut-lt n r m h k = go (leb m r) (leb→le m r) (nleb→lt m r)
   where
@@ -103,24 +107,24 @@ guess-near n p h k l =
 -- p is the whole number nearest to √n, which is from 2 ^ 23 up to 2 ^ 24. The first part says that √n is above p - 1 / 2, and where p is 2 ^ 23, that it is no less than p.
 abbrev pub Near : ℕ → ℕ → Type 0
 Near n p =
-    ((p * p ≤ n) ⊎ ((r : ℕ) × (p ≡ r + 1) × (8388608 ≤ r) × ((2 * r + 1) * (2 * r + 1) < 4 * n)))
+    ((p * p ≤ n) ⊎ ((r : ℕ) × (p ≡ r + 1) × (hidden ≤ r) × ((2 * r + 1) * (2 * r + 1) < 4 * n)))
     × (4 * n < (2 * p + 1) * (2 * p + 1))
-    × (8388608 ≤ p)
-    × (p ≤ 16777216)
+    × (hidden ≤ p)
+    × (p ≤ digitsEnd)
 
-near-at : (n r : ℕ) → 70368744177664 ≤ n → n < 281474976710656 → Cut n r → Near n (nearer n r)
+near-at : (n r : ℕ) → squareLeast ≤ n → n < squareEnd → Cut n r → Near n (nearer n r)
 near-at n r l h cut = go (ltb r (n - r * r)) (ltb→lt r (n - r * r)) (nltb→le r (n - r * r))
   where
-    lo : 8388608 ≤ r
-    lo = let p : 8388608 < r + 1 = cut-lt n 8388608 (r + 1) (cut .1) l in omega arith
+    lo : hidden ≤ r
+    lo = let p : hidden < r + 1 = cut-lt n hidden (r + 1) (cut .1) l in omega arith
 
-    hi : r < 16777216
-    hi = cut-lt n r 16777216 h (cut .0)
+    hi : r < digitsEnd
+    hi = cut-lt n r digitsEnd h (cut .0)
 
     go : (b : Bool) → (T b → r < n - r * r) → (T (not b) → n - r * r ≤ r) → Near n (cond b (r + 1) r)
     go true f g = let p : r < n - r * r = f tt in (inr (r, refl, lo, omega arith), omega arith, omega (arith, lo), omega (arith, hi))
     go false f g = let p : n - r * r ≤ r = g tt in (inl (cut .0), omega arith, lo, omega (arith, hi))
 
-pub near : (n : ℕ) → 70368744177664 ≤ n → n < 281474976710656 → Near n (rootNear n)
+pub near : (n : ℕ) → squareLeast ≤ n → n < squareEnd → Near n (rootNear n)
 unfolding rootNear
 near n l h = near-at n (rootDown 24 n) l h (down-cut 24 n h)

@@ -1,4 +1,5 @@
--- `sqrtOf` is the square root (`Root`), and there is one only. Assumes nothing.
+-- `sqrtOf` is the square root in the words of `Root`: the nearest value, and there is one only.
+-- Assumes nothing.
 use mathlib.Core.Path.{_≡_, refl, sym, ap, _∙_, subst}
 use mathlib.Core.Logic.{inl, inr}
 use Prim.Native.Nat.{ℕ, zero, suc, _+_, _-_, _*_, _/_, _%_, _^_, _≤_, _<_}
@@ -15,7 +16,7 @@ use lib.Ieee.Fits.{and-l, and-r, down-pos}
 use lib.Ieee.Exact.{HasValue}
 use lib.Ieee.Scale.{finite}
 use lib.Ieee.Positive.{positive, positive-of-value, positive-finite}
-use Rattle.sqrt.specs.Sqrt.{significand, exponent, shift, place, rootNear, rootOf, rootBits, sqrtOf}
+use Rattle.sqrt.specs.Sqrt.{digitsEnd, infinityBits, hidden, significand, exponent, shift, place, rootNear, rootOf, rootBits, sqrtOf}
 use Rattle.sqrt.specs.Root.{size, Root}
 use Rattle.sqrt.specs.laws.Cut.{Near, near}
 use Rattle.sqrt.specs.laws.Scaled.{scaled-lt, scaled-ge, even}
@@ -32,20 +33,20 @@ size-is (fin t m e) s a v = ap (λ (z : ℕ). z / down e) (v .1) ∙ mul-div-can
 pow-le : (i j : ℕ) → 2 ^ i ≤ 2 ^ j → i ≤ j
 pow-le i j h = elim (here-or-on j i) [ inl l ↦ absurd (lt-irrefl (2 ^ j) (lt-of-lt-of-le (pow-lt l) h)) | inr g ↦ g ]
 
-in-format : (s : Bool) (m : ℕ) (e : ℤ) → T (fits binary32 (fin s (suc m) e)) → (suc m < 16777216) × (down e ≤ 2 ^ 149)
+in-format : (s : Bool) (m : ℕ) (e : ℤ) → T (fits binary32 (fin s (suc m) e)) → (suc m < digitsEnd) × (down e ≤ 2 ^ 149)
 unfolding fits
 in-format s m e f =
     let a = eqb (suc m % 2) 1 in
-    let b = ltb (suc m) 16777216 in
+    let b = ltb (suc m) digitsEnd in
     let c = leb (down e) (2 ^ 149) in
     let g = and-l (a && b && c) _ f in
-    (ltb→lt (suc m) 16777216 (and-r a b (and-l (a && b) c g)), leb→le (down e) (2 ^ 149) (and-r (a && b) c g))
+    (ltb→lt (suc m) digitsEnd (and-r a b (and-l (a && b) c g)), leb→le (down e) (2 ^ 149) (and-r (a && b) c g))
 
 nil : (a b c : ℕ) → 0 * a * b ≡ 0 * c
 nil a b c = omega arith
 
 -- a finite value of binary32 is a number below 2 ^ 24 times a power of two, in units of 2 ^ -149
-on-grid : (s : Bool) (m : ℕ) (e : ℤ) → T (fits binary32 (fin s m e)) → (q : ℕ) × (i : ℕ) × (q < 16777216) × HasValue (fin s m e) s (q * 2 ^ i) (2 ^ 149)
+on-grid : (s : Bool) (m : ℕ) (e : ℤ) → T (fits binary32 (fin s m e)) → (q : ℕ) × (i : ℕ) × (q < digitsEnd) × HasValue (fin s m e) s (q * 2 ^ i) (2 ^ 149)
 on-grid s zero e f = (0, 0, lit< tt, (refl, nil (up e) (2 ^ 149) (down e)))
 on-grid s (suc m) (pos k) f = (
   suc m,
@@ -73,7 +74,7 @@ pub size-exact : (s : Bool) (m : ℕ) (e : ℤ) → T (fits binary32 (fin s m e)
 size-exact s m e f = let g = on-grid s m e f in rw (size-is (fin s m e) s (g .0 * 2 ^ g .1) (g .3)) (g .3)
 
 abbrev Gridded : ℕ → Type 0
-Gridded n = (q : ℕ) × (i : ℕ) × (q < 16777216) × (n ≡ q * 2 ^ i)
+Gridded n = (q : ℕ) × (i : ℕ) × (q < digitsEnd) × (n ≡ q * 2 ^ i)
 
 gridded : (y : Float) → T (fits binary32 y) → T (finite y) → Gridded (size y)
 gridded nan f g = absurd g
@@ -81,15 +82,15 @@ gridded (inf s) f g = absurd g
 gridded (fin s m e) f g = let h = on-grid s m e f in (h .0, h .1, h .2, size-is (fin s m e) s (h .0 * 2 ^ h .1) (h .3))
 
 -- ---- between p * 2 ^ j and (p + 1) * 2 ^ j lies no value, for a p of 24 digits
-floor : (q i p j : ℕ) → q < 16777216 → 8388608 ≤ p → q * 2 ^ i < (p + 1) * 2 ^ j → q * 2 ^ i ≤ p * 2 ^ j
+floor : (q i p j : ℕ) → q < digitsEnd → hidden ≤ p → q * 2 ^ i < (p + 1) * 2 ^ j → q * 2 ^ i ≤ p * 2 ^ j
 floor q i p j hq hp h = elim (here-or-on i j) [ inl l ↦ fine l | inr g ↦ coarse g ]
   where
     fine : i < j → q * 2 ^ i ≤ p * 2 ^ j
     fine l =
-        let a : q * 2 ^ i ≤ 16777216 * 2 ^ i = mul-le-mul-right (2 ^ i) (le-of-lt hq) in
+        let a : q * 2 ^ i ≤ digitsEnd * 2 ^ i = mul-le-mul-right (2 ^ i) (le-of-lt hq) in
         let b : 2 ^ suc i ≤ 2 ^ j = pow-mono l in
         let c : 2 ^ suc i ≡ 2 * 2 ^ i = pow-succ' 2 i in
-        let d : 8388608 * 2 ^ j ≤ p * 2 ^ j = mul-le-mul-right (2 ^ j) hp in
+        let d : hidden * 2 ^ j ≤ p * 2 ^ j = mul-le-mul-right (2 ^ j) hp in
         omega arith
 
     coarse : j ≤ i → q * 2 ^ i ≤ p * 2 ^ j
@@ -112,7 +113,7 @@ floor q i p j hq hp h = elim (here-or-on i j) [ inl l ↦ fine l | inr g ↦ coa
             more w l = omega arith
 
 -- (p + 1) * 2 ^ j is at most each value above p * 2 ^ j
-ceil : (q i p j : ℕ) → q < 16777216 → 8388608 ≤ p → p * 2 ^ j < q * 2 ^ i → (p + 1) * 2 ^ j ≤ q * 2 ^ i
+ceil : (q i p j : ℕ) → q < digitsEnd → hidden ≤ p → p * 2 ^ j < q * 2 ^ i → (p + 1) * 2 ^ j ≤ q * 2 ^ i
 ceil q i p j hq hp h =
     elim (here-or-on (q * 2 ^ i) ((p + 1) * 2 ^ j)) [
       | inl l ↦ absurd (lt-irrefl (p * 2 ^ j) (lt-of-lt-of-le h (floor q i p j hq hp l)))
@@ -163,25 +164,25 @@ module _ (n p j : ℕ) (w : Near n p) (y : ℕ) (g : Gridded y) where
       (subst (λ (z : ℕ). (p + 1) * 2 ^ j ≤ z) (sym (g .3)) (ceil (g .0) (g .1) p j (g .2) (w .2) (subst (λ (z : ℕ). p * 2 ^ j < z) (g .3) l)))
 
 -- ---- the pattern j * 2 ^ 23 + p stands for p * 2 ^ j
-val-at : (j p : ℕ) → 8388608 ≤ p → p ≤ 16777216 → val (j * 8388608 + p) ≡ p * 2 ^ j
-val-at j p l h = rw (le-ltb (j * 8388608 + p) 8388608 (omega arith)) (elim (here-or-on p 16777216) [ inl a ↦ within a | inr b ↦ carried b ])
+val-at : (j p : ℕ) → hidden ≤ p → p ≤ digitsEnd → val (j * hidden + p) ≡ p * 2 ^ j
+val-at j p l h = rw (le-ltb (j * hidden + p) hidden (omega arith)) (elim (here-or-on p digitsEnd) [ inl a ↦ within a | inr b ↦ carried b ])
   where
-    fields : (x t : ℕ) → (8388608 + (j * 8388608 + p) % 8388608) ≡ t → (j * 8388608 + p) / 8388608 - 1 ≡ x
-        → (8388608 + (j * 8388608 + p) % 8388608) * 2 ^ ((j * 8388608 + p) / 8388608 - 1) ≡ t * 2 ^ x
-    fields x t a b = ap (λ (z : ℕ). z * 2 ^ ((j * 8388608 + p) / 8388608 - 1)) a ∙ ap (λ (z : ℕ). t * 2 ^ z) b
+    fields : (x t : ℕ) → (hidden + (j * hidden + p) % hidden) ≡ t → (j * hidden + p) / hidden - 1 ≡ x
+        → (hidden + (j * hidden + p) % hidden) * 2 ^ ((j * hidden + p) / hidden - 1) ≡ t * 2 ^ x
+    fields x t a b = ap (λ (z : ℕ). z * 2 ^ ((j * hidden + p) / hidden - 1)) a ∙ ap (λ (z : ℕ). t * 2 ^ z) b
 
-    within : p < 16777216 → (8388608 + (j * 8388608 + p) % 8388608) * 2 ^ ((j * 8388608 + p) / 8388608 - 1) ≡ p * 2 ^ j
+    within : p < digitsEnd → (hidden + (j * hidden + p) % hidden) * 2 ^ ((j * hidden + p) / hidden - 1) ≡ p * 2 ^ j
     within a = fields j p (omega arith) (omega arith)
 
-    carried : 16777216 ≤ p → (8388608 + (j * 8388608 + p) % 8388608) * 2 ^ ((j * 8388608 + p) / 8388608 - 1) ≡ p * 2 ^ j
+    carried : digitsEnd ≤ p → (hidden + (j * hidden + p) % hidden) * 2 ^ ((j * hidden + p) / hidden - 1) ≡ p * 2 ^ j
     carried b =
         let c : 2 ^ suc j ≡ 2 * 2 ^ j = pow-succ' 2 j in
-        let e : p ≡ 16777216 = omega arith in
-        let f : p * 2 ^ j ≡ 16777216 * 2 ^ j = ap (λ (z : ℕ). z * 2 ^ j) e in
-        fields (suc j) 8388608 (omega arith) (omega arith) ∙ omega arith
+        let e : p ≡ digitsEnd = omega arith in
+        let f : p * 2 ^ j ≡ digitsEnd * 2 ^ j = ap (λ (z : ℕ). z * 2 ^ j) e in
+        fields (suc j) hidden (omega arith) (omega arith) ∙ omega arith
 
 -- ---- the root of m * 2 ^ k, in units of 2 ^ -149
-module _ (m k : ℕ) (p : 0 < m) (h : m < 16777216) (l : k < 255) where
+module _ (m k : ℕ) (p : 0 < m) (h : m < digitsEnd) (l : k < 255) where
   square : m * 2 ^ k * 2 ^ 149 ≡ m * 2 ^ shift m k * (2 ^ (place m k) * 2 ^ (place m k))
   square =
       mul-assoc m (2 ^ k) (2 ^ 149)
@@ -196,22 +197,22 @@ module _ (m k : ℕ) (p : 0 < m) (h : m < 16777216) (l : k < 255) where
   is-near : Near (m * 2 ^ shift m k) (rootNear (m * 2 ^ shift m k))
   is-near = near (m * 2 ^ shift m k) (scaled-ge m k p h) (scaled-lt m k p h)
 
-  is-at : rootOf m k ≡ (place m k) * 8388608 + rootNear (m * 2 ^ shift m k)
+  is-at : rootOf m k ≡ (place m k) * hidden + rootNear (m * 2 ^ shift m k)
   unfolding rootOf
   is-at = refl
 
   root-val : val (rootOf m k) ≡ rootNear (m * 2 ^ shift m k) * 2 ^ (place m k)
   root-val = ap val is-at ∙ val-at (place m k) (rootNear (m * 2 ^ shift m k)) (is-near .2) (is-near .3)
 
-  root-lt : rootOf m k < 2139095040
+  root-lt : rootOf m k < infinityBits
   root-lt =
-      let u : rootNear (m * 2 ^ shift m k) ≤ 16777216 = is-near .3 in
-      subst (λ (z : ℕ). z < 2139095040) (sym is-at) (small (k + 149 - shift m k) (rootNear (m * 2 ^ shift m k)) (less (shift m k)) u)
+      let u : rootNear (m * 2 ^ shift m k) ≤ digitsEnd = is-near .3 in
+      subst (λ (z : ℕ). z < infinityBits) (sym is-at) (small (k + 149 - shift m k) (rootNear (m * 2 ^ shift m k)) (less (shift m k)) u)
     where
       less : (s : ℕ) → k + 149 - s < 404
       less s = omega arith
 
-      small : (a r : ℕ) → a < 404 → r ≤ 16777216 → a / 2 * 8388608 + r < 2139095040
+      small : (a r : ℕ) → a < 404 → r ≤ digitsEnd → a / 2 * hidden + r < infinityBits
       small a r x y = omega arith
 
   root-pos : 0 < rootNear (m * 2 ^ shift m k) * 2 ^ (place m k)
@@ -272,7 +273,7 @@ same-bits (fin true m d) q P Q e = absurd P
 same-bits (fin false m d) nan P Q e = absurd Q
 same-bits (fin false m d) (inf s) P Q e = absurd Q
 same-bits (fin false m d) (fin true n c) P Q e = absurd Q
-same-bits (fin false m d) (fin false n c) P Q e = ap (λ (z : ℕ). 0 + (bits z - 24) * 8388608 + z / 2 ^ (bits z - 24)) e
+same-bits (fin false m d) (fin false n c) P Q e = ap (λ (z : ℕ). 0 + (bits z - 24) * hidden + z / 2 ^ (bits z - 24)) e
 
 pub root-one : (x r q : Float) → Root x r → Root x q → r ≡ q
 root-one x r q a b =
