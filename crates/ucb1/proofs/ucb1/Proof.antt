@@ -1,6 +1,5 @@
 -- `ucb1::ucb1` meets its contract.
 -- Assumes nothing.
-use borrow.Author.Needs.{needs}
 use Rattle.laws.specs.laws.Floats.{one-bits}
 use Rattle.ucb1.proofs.ucb1.Statement.{statement}
 use Rattle.ucb1.proofs.ucb1.Tie as tie
