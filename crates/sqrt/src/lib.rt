@@ -22,8 +22,8 @@ const LOWEST: u32 = 149;
 // Half of what an exponent is counted from, less some digits: with half a pattern it makes that of a number within 4 % of the root.
 const HALF_WAY: u32 = 0x1fbb_67ae;
 
-// 2^64: above the root of each f32.
-const BEYOND_ROOTS: f64 = 18446744073709551616.0;
+// 2^66: above twice the root of each f32.
+const BEYOND_ROOTS: f64 = 73786976294838206464.0;
 
 // The largest r with r * r <= n, by Newton's iteration from above.
 fn root_down(n: u64) -> u64
@@ -70,10 +70,10 @@ fn guess_of(b: u32) -> u64
     let start = f32::from_bits(HALF_WAY + b / 2) as f64;
     let square = start * start;
     let near = start * (square + 3.0 * x) / (3.0 * square + x);
-    let root = 0.5 * (near + x / near);
-    if root < BEYOND_ROOTS {
-        // of the 52 digits behind the first the upper 23, rounded
-        let bits: u64 = f64::to_bits(root);
+    // twice the root has its digits: of the 52 behind the first the upper 23, rounded
+    let twice = near + x / near;
+    if twice < BEYOND_ROOTS {
+        let bits: u64 = f64::to_bits(twice);
         return DIGITS_END / 2 + ((bits >> 28) + 1) / 2 % (DIGITS_END / 2);
     }
     0

@@ -7,7 +7,7 @@ use native.Mathlib.Omega.{arith}
 use lib.Dec.{T}
 use lib.Ieee.{binary32, binary64, ofBits, fits, isNan}
 use lib.Ieee.Bits.{ofBits-fits, toBits-lt, nanBits-is}
-use lib.Ieee.Fits.{and-i, fits-widens, mul-fits}
+use lib.Ieee.Fits.{and-i, fits-widens, add-fits}
 use mir.Syntax.{w64}
 use mir.Val.{Fits}
 use Rattle.sqrt.specs.Sqrt.{infinityBits}
@@ -35,7 +35,7 @@ guess-of-spec =
     (λ c. no-nan _ (omega arith))
     (λ c. widens _ (omega arith))
     (λ c. below-no-nan _ _ (yes _ (c .if1 .taken)))
-    (λ c. spare _ (toBits-lt binary64 _ (mul-fits binary64 _ _)))
+    (λ c. spare _ (toBits-lt binary64 _ (add-fits binary64 _ _)))
     (λ c. omega arith)
     (λ c. omega arith)
     (λ c. omega arith)

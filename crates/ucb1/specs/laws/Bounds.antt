@@ -56,11 +56,11 @@ one-within x p =
 -- ---- the parts
 
 -- 1 - w is from 0 to 1
-rest-bounds : (w : Float) → T (between (float 0) w one) → AtLeast0 (sub binary32 one w) × Small (sub binary32 one w) 1
+rest-small : (w : Float) → T (between (float 0) w one) → Small (sub binary32 one w) 1
 unfolding ofInt sub add neg
-rest-bounds w h =
+rest-small w h =
     let v = sub-within binary32 (least-within w 1 (lit≤ tt) (between-least w 1 (lit≤ tt) h) (between-small w 1 (lit≤ tt) h)) one 1 (lit≤ tt) (lit≤ tt) in
-    (v .from, least-small one (sub binary32 one w) 1 (refl, refl) (v .from) (v .to))
+    least-small one (sub binary32 one w) 1 (refl, refl) (v .from) (v .to)
 
 -- ---- the whole
 
@@ -85,7 +85,7 @@ module _ {w c ln visits sum maximum : Float} (fair : Fair w c ln visits sum maxi
       let w-least = between-least w 1 (lit≤ tt) (fair .weight) in
       let m-least = between-least maximum 1 (lit≤ tt) (fair .maximum-in) in
       add-within binary32
-      (one-within _ (mul-small binary32 (sub binary32 one w) (div binary32 sum visits) 1 1 (lit≤ tt) (rest-bounds w (fair .weight) .1) average-small))
+      (one-within _ (mul-small binary32 (sub binary32 one w) (div binary32 sum visits) 1 1 (lit≤ tt) (rest-small w (fair .weight)) average-small))
       (lit≤ tt)
       (least-within (mul binary32 w maximum) 1 (lit≤ tt) (mul-least binary32 w maximum 1 1 (lit≤ tt) w-small m-small w-least m-least)
       (mul-small binary32 w maximum 1 1 (lit≤ tt) w-small m-small))
