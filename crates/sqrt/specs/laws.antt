@@ -1,0 +1,7 @@
+pub mod Cut
+pub mod Scaled
+pub mod Patterns
+pub mod Cases
+pub mod Right
+pub mod Bounds
+pub mod Worked
