@@ -14,3 +14,4 @@ pub mod Calls
 pub mod Meets
 pub mod Slices
 pub mod SlicesMeet
+pub mod SlicesCall

@@ -18,7 +18,7 @@ use ghost.Atoms.{Atoms, sem}
 use contract.Monad.{top, fact, factI}
 use contract.Lifetimes.{Lfts, Shares, toks}
 use contract.Running.{GhostRules, Running, givenOf, tables, tablesOf}
-use types.Kit.{Given, Goal, Step, Item, ‵, raw, _⊛_, prop, runs, atRet, Sq, _$_, _∵_, !, qed, by, step, push, pop, ⋆, move, use0, use1, split, join, fsplit, fjoin, feqI, frame, updating, now as at-once, keep, suffices, done}
+use types.Kit.{Given, Item, ‵, raw, _⊛_, prop, runs, atRet, Sq, _$_, _∵_, !, qed, by, push, pop, ⋆, move, use0, use1, split, join, fsplit, fjoin, feqI, frame, updating, now as at-once, keep, suffices, done}
 use sound.WpLaws.{WpFn-mono}
 use denote.RattleType.{RattleType, Denots, Valss, flat, mirs, owns}
 use denote.Exit.{yes}
@@ -36,6 +36,7 @@ use denote.Triple.Walked.{Stay, Stays, stay-dropped, fitsOf, hasOf, walkOf, Goes
 use Rattle.walks.proofs.Locals.{none, stored, slots, deaths, Blocks, env, Suits, starts}
 use Rattle.walks.proofs.Lend.{View, fat, Tok, Own, Shr}
 use Rattle.walks.proofs.Values.{Datum, Data, machine, Known, rowsOf, spellsOf, tellsOf, valsOf, from, flat-is, known-from, lawfulsOf}
+use Rattle.walks.proofs.Arrays.{changes}
 use Rattle.walks.proofs.Functions.{Met, ask-out}
 use Rattle.walks.proofs.Meets.{staysOf, lastsOf, fitsAll, goesOf, hadOf}
 use Rattle.walks.proofs.Slices.{Lent, shr, mut, element, lives, Lists, Lefts, ended, SlicesFn, paramsOf, typesOf, listsOf, plainsOf, leftsOf, slicesT, entered, passed, slices-clauses, ContractSlices}
@@ -64,10 +65,6 @@ module _ {M : Type 1} {𝓤 : URA M} where
   held [] S X = []
   held (shr R ∷ ls) S X = ‵ (Shr (S .0) (X .0)) ∷ ‵ (Tok (S .0)) ∷ held ls (S .1) (X .1)
   held (mut R ∷ ls) S X = ‵ (Own (S .0) (X .0)) ∷ ‵ (Tok (S .0)) ∷ held ls (S .1) (X .1)
-
--- the context replaced by what it entails
-changes : {M : Type 1} {𝓤 : URA M} {H : Heap 𝓤} {A : Atoms 𝓤} {K : Type 0} (W : Given 𝓤 H A) {G : Goal 𝓤 H} (Γ Δ : List (Item 𝓤)) → ent 𝓤 (⋆ 𝓤 H A Γ) (⋆ 𝓤 H A Δ) → Step K W Δ G Γ G
-changes {𝓤 = 𝓤} W Γ Δ h = step (λ s. record { prf = via 𝓤 _ h (s .prf) })
 
 -- the same as one assertion
 module _ {M : Type 1} (𝓤 : URA M) (H : Heap 𝓤) (A : Atoms 𝓤) where
@@ -263,7 +260,7 @@ module _ {M : Type 1} (𝓤 : URA M) (H : Heap 𝓤) (A : Atoms 𝓤) (W : Given
           (λ bs. suits κs S (plainsOf n ks κs ls 0 π a) bs (subst (Typed (mirs (typesOf n ks κs ls 0 π))) vals-are (all-typed 𝓤 H A (typesOf n ks κs ls 0 π) (lawfuls-in n ks 𝓤 H A W κs ls 0 π) a vss are)))
           (λ bs. walk S X d (plain-are n ks κs ls 0 π a are) (long-in n ks κs ls 0 π qs a are) pre bs Q (λ r Z r-is long e.
           suffices ! _ (ends-at 𝓤 H A (slicesT F) (staysIn n ks ls 0 π) (slices-clauses F 𝓤 H A) W ((κs, qs, bounds, a, vss), g) (F .gives .val r) r (lastsIn n ks κs ls 0 π a Z) (fits-in n ks κs ls 0 π qs a are Z long)) $
-          changes W (held ls S (ended ls X Z)) ((raw (Alive n ks 𝓤 H A W κs ls π qs) ⊛ ‵ (had n ks 𝓤 H A W κs ls 0 π a Z)) ∷ []) (via 𝓤 _ (held-out 𝓤 H A ls S (ended ls X Z)) (leaves n ks 𝓤 H A W κs ls 0 π qs a are Z)) $ split ! $
+          changes ! ((raw (Alive n ks 𝓤 H A W κs ls π qs) ⊛ ‵ (had n ks 𝓤 H A W κs ls 0 π a Z)) ∷ []) (via 𝓤 _ (held-out 𝓤 H A ls S (ended ls X Z)) (leaves n ks 𝓤 H A W κs ls 0 π qs a are Z)) $ split ! $
           use0 W (‵ (F .gives .row .own r (F .gives .val r ∷ []))) (F .gives .makes 𝓤 H A W r (F .gives .val r ∷ []) r-is) $ move ! (2 ∷ 0 ∷ []) $ join ! $ move ! (1 ∷ 0 ∷ []) $ join ! $
           use0 W (raw (fact 𝓤 (F .says X d r (leftsOf n ks κs ls 0 π (atExit (slicesT F) κs a (lastsIn n ks κs ls 0 π a Z)))))) (factI 𝓤 _ (emp 𝓤) (subst (F .says X d r) (sym (lefts-are n ks κs ls 0 π a Z)) e)) $ move ! (1 ∷ 0 ∷ []) $ done !)) in
       via 𝓤 _ (enters n ks 𝓤 H A W κs ls 0 π qs a are) (via 𝓤 _ (held-in 𝓤 H A ls S X) (body .prf))))))
