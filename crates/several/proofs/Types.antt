@@ -8,13 +8,13 @@ use lib.Ieee.{add, binary32}
 use lib.ListN.{length, set, getD}
 use denote.Builtin.{f32}
 use denote.Plain.{UInt}
-use Rattle.several.specs.Several.{nodeAt, noLog, within, sumTo, madeOf}
+use Rattle.several.specs.Several.{nodeAt, noLog, within, sumTo, madeOf, linksMost, noLinks, Fits, Iterated, grownNodes, Searches, Searched}
 use Rattle.several.proofs.Node as T
 use Rattle.several.proofs.Node.Laws as T′
 use Rattle.several.proofs.Stop as Z
 use Rattle.several.proofs.Stop.Laws as Z′
 use Rattle.walks.proofs.Values.{Datum, usize′, u8′, u32′, f32′, unit′, struct′, enum′}
-use Rattle.walks.proofs.Functions.{nothing-asked, that, MutFn, ShrFn, PlainFn}
+use Rattle.walks.proofs.Functions.{nothing-asked, that, MutFn, ShrFn, BothFn, PlainFn}
 use Rattle.walks.proofs.Slices.{shr, mut, SlicesFn}
 
 abbrev pub node′ : Datum
@@ -67,4 +67,36 @@ put-both′ = record {
   gives = unit′;
   asks = that (λ x a. (a .0 < length (x .0)) × (a .0 < length (x .1 .0)));
   says = λ x a _ z. (z .0 ≡ set (x .0) (a .0) (a .1 .0)) × (z .1 .0 ≡ set (x .1 .0) (a .0) (a .1 .1 .0));
+}
+
+abbrev pub iterate′ : SlicesFn (mut T.the-row ∷ mut (UInt w32) ∷ shr f32 ∷ shr (UInt w8) ∷ [])
+iterate′ = record {
+  takes = usize′ ∷ [];
+  gives = stop′;
+  asks = that (λ x a. Fits (a .0) (x .0) (x .1 .0) (x .1 .1 .0) (x .1 .1 .1 .0));
+  says = λ x a r z. Iterated (a .0) (x .0) (x .1 .0) (x .1 .1 .0) (x .1 .1 .1 .0) r (z .0) (z .1 .0);
+}
+
+abbrev pub grow′ : SlicesFn (mut T.the-row ∷ shr f32 ∷ shr (UInt w8) ∷ [])
+grow′ = record {
+  takes = usize′ ∷ usize′ ∷ [];
+  gives = unit′;
+  asks = that (λ x a. (a .0 ≤ linksMost) × Fits (a .0) (x .0) noLinks (x .1 .0) (x .1 .1 .0));
+  says = λ x a _ z. z .0 ≡ grownNodes (a .0) (x .0) (x .1 .0) (x .1 .1 .0) (a .1 .0);
+}
+
+abbrev pub put-mark′ : BothFn T.the-row (UInt w8)
+put-mark′ = record {
+  takes = usize′ ∷ [];
+  gives = unit′;
+  asks = that (λ x a. (a .0 < length (x .0)) × (a .0 < length (x .1)));
+  says = λ xs os a _ zs. zs ≡ set os (a .0) (nodeAt xs (a .0) .mark);
+}
+
+abbrev pub search′ : SlicesFn (mut T.the-row ∷ shr f32 ∷ shr (UInt w8) ∷ mut (UInt w8) ∷ [])
+search′ = record {
+  takes = usize′ ∷ usize′ ∷ usize′ ∷ [];
+  gives = usize′;
+  asks = that (λ x a. Searches (x .0) (x .1 .0) (x .1 .1 .0) (x .1 .1 .1 .0) (a .0) (a .1 .1 .0));
+  says = λ x a r z. Searched (a .0) (x .0) (x .1 .0) (x .1 .1 .0) (x .1 .1 .1 .0) (a .1 .0) (a .1 .1 .0) r (z .0) (z .1 .0);
 }

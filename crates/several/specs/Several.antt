@@ -1,11 +1,12 @@
 -- Tries crates/walks: what the functions of this crate compute.
 -- Assumes nothing.
 use mathlib.Core.Bool.{Bool, cond}
+use mathlib.Core.Path.{_≡_}
 use mathlib.Core.List.{List}
-use Prim.Native.Nat.{ℕ, zero, suc, _+_}
+use Prim.Native.Nat.{ℕ, zero, suc, _+_, _<_, _≤_}
 use lib.Dec.{ltb, eqb}
 use lib.Ieee.{Float, binary32, nan, add}
-use lib.ListN.{getD, set}
+use lib.ListN.{length, getD, set, replicate}
 use Rattle.several.specs.declared.Node.{Node}
 use Rattle.several.specs.declared.Stop.{Stop}
 use Rattle.several.specs.declared.Stop.the-variants.{At, End}
@@ -53,6 +54,39 @@ stopOf count draws = cond (ltb (zeroFrom count 0 draws) count) (At (zeroFrom cou
 abbrev pub ranOf : List Float → List ℕ → ℕ → Pair → Pair
 ranOf logs draws count p = roundsOf logs draws count (zeroFrom count 0 draws) p
 
+pub record Fits (count : ℕ) (nodes : List Node) (links : List ℕ) (logs : List Float) (draws : List ℕ) : Type 0 where
+  pub nodes-long : count ≤ length nodes
+  pub links-long : count ≤ length links
+  pub logs-long : count ≤ length logs
+  pub draws-long : count ≤ length draws
+
+abbrev pub pair : List Node → List ℕ → Pair
+pair nodes links = record { nodes = nodes; links = links }
+
+pub record Iterated (count : ℕ) (nodes : List Node) (links : List ℕ) (logs : List Float) (draws : List ℕ) (r : Stop) (nodes′ : List Node) (links′ : List ℕ) : Type 0 where
+  pub answer : r ≡ stopOf count draws
+  pub left : pair nodes′ links′ ≡ ranOf logs draws count (pair nodes links)
+
 unfoldable pub grownOf : List Float → List ℕ → ℕ → ℕ → Pair → Pair
 grownOf logs draws count zero p = p
 grownOf logs draws count (suc k) p = ranOf logs draws count (grownOf logs draws count k p)
+
+abbrev pub linksMost : ℕ
+linksMost = 64
+
+abbrev pub noLinks : List ℕ
+noLinks = replicate linksMost 0
+
+abbrev pub grownNodes : ℕ → List Node → List Float → List ℕ → ℕ → List Node
+grownNodes count nodes logs draws times = grownOf logs draws count times (pair nodes noLinks) .nodes
+
+pub record Searches (nodes : List Node) (logs : List Float) (draws : List ℕ) (out : List ℕ) (count k : ℕ) : Type 0 where
+  pub most : count ≤ linksMost
+  pub fits : Fits count nodes noLinks logs draws
+  pub there : k < length nodes
+  pub room : k < length out
+
+pub record Searched (count : ℕ) (nodes : List Node) (logs : List Float) (draws : List ℕ) (out : List ℕ) (times k : ℕ) (r : ℕ) (nodes′ : List Node) (out′ : List ℕ) : Type 0 where
+  pub answer : r ≡ length out
+  pub grown : nodes′ ≡ grownNodes count nodes logs draws times
+  pub marked : out′ ≡ set out k (nodeAt nodes′ k .mark)

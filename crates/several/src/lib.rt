@@ -3,7 +3,7 @@ ghost use mathlib.Core.Path.{_≡_};
 ghost use Prim.Native.Nat.{_<_, _≤_};
 ghost use lib.Ieee.{add, binary32};
 ghost use lib.ListN.{length, set, getD};
-ghost use Rattle.several.specs.Several.{nodeAt, within, sumTo, madeOf, noLog, stopOf, ranOf, Pair, grownOf};
+ghost use Rattle.several.specs.Several.{nodeAt, within, sumTo, madeOf, noLog, linksMost, noLinks, Fits, Iterated, grownNodes, Searches, Searched};
 
 pub struct Node {
     pub mark: u8,
@@ -112,4 +112,55 @@ pub fn put_both(nodes: &mut [Node], links: &mut [u32], k: usize, n: Node, v: u32
 {
     put_node(nodes, k, n);
     put_link(links, k, v);
+}
+
+// Rounds until a draw is 0.
+pub fn iterate(nodes: &mut [Node], links: &mut [u32], logs: &[f32], draws: &[u8], count: usize) -> Stop
+    requires { ⌜ Fits count (now nodes) (now links) (now logs) (now draws) ⌝ }
+    ensures { λ r. ⌜ Iterated count (now (nodes .entry)) (now (links .entry)) (now (logs .entry)) (now (draws .entry)) r (now (nodes .exit)) (now (links .exit)) ⌝ }
+{
+    let mut i = 0;
+    while i < count {
+        let d = draw_at(draws, i);
+        if d == 0 {
+            return Stop::At(i);
+        }
+        let g = log_at(logs, i);
+        let sum = sum_found(nodes, links, g, count);
+        let n = made(d, sum, g);
+        put_both(nodes, links, i, n, 7);
+        i += 1;
+    }
+    Stop::End
+}
+
+// So many times, from links that are all 0.
+pub fn grow(nodes: &mut [Node], logs: &[f32], draws: &[u8], count: usize, times: usize)
+    requires { ⌜ (count ≤ linksMost) × Fits count (now nodes) noLinks (now logs) (now draws) ⌝ }
+    ensures { λ _. ⌜ now (nodes .exit) ≡ grownNodes count (now (nodes .entry)) (now (logs .entry)) (now (draws .entry)) times ⌝ }
+{
+    let mut links = [0u32; 64];
+    let mut k = 0;
+    while k < times {
+        iterate(nodes, &mut links, logs, draws, count);
+        k += 1;
+    }
+}
+
+// Stores the mark of node k.
+pub fn put_mark(nodes: &[Node], out: &mut [u8], k: usize)
+    requires { ⌜ (k < length (now nodes)) × (k < length (now out)) ⌝ }
+    ensures { λ _. ⌜ now (out .exit) ≡ set (now (out .entry)) k (nodeAt (now (nodes .entry)) k .mark) ⌝ }
+{
+    let n = node_at(nodes, k);
+    put_byte(out, k, n.mark);
+}
+
+pub fn search(nodes: &mut [Node], logs: &[f32], draws: &[u8], out: &mut [u8], count: usize, times: usize, k: usize) -> usize
+    requires { ⌜ Searches (now nodes) (now logs) (now draws) (now out) count k ⌝ }
+    ensures { λ r. ⌜ Searched count (now (nodes .entry)) (now (logs .entry)) (now (draws .entry)) (now (out .entry)) times k r (now (nodes .exit)) (now (out .exit)) ⌝ }
+{
+    grow(nodes, logs, draws, count, times);
+    put_mark(nodes, out, k);
+    out.len()
 }
