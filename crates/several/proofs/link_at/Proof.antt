@@ -1,0 +1,25 @@
+use native.Mathlib.Omega.{arith}
+use borrow.Author.Needs.{needs}
+use Rattle.several.proofs.link_at.Statement.{statement}
+use Rattle.several.proofs.link_at.Tie as tie
+use Rattle.several.proofs.link_at.Reads as reads
+use Rattle.several.proofs.link_at.Lts as lts
+
+-- src/lib.rt:37:5
+mul-result : tie.Need-mul-result
+mul-result c = search needs
+
+-- src/lib.rt:37:5
+shared-slice-read-result : tie.Need-shared-slice-read-result
+shared-slice-read-result c = search needs
+
+-- src/lib.rt:37:5
+cast-result : tie.Need-cast-result
+cast-result c = omega (arith, c .shared-slice-known .given (c .before .args .k))
+
+-- src/lib.rt:33:1
+returns : tie.Need-returns
+returns c = search needs
+
+pub link-at-spec : {M : Type 1} → statement M
+link-at-spec = tie.close (tie.spec mul-result shared-slice-read-result cast-result returns)
