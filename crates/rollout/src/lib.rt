@@ -1,0 +1,4 @@
+// The rollout of a search.
+mod rollout;
+
+pub use rollout::Rolled;

@@ -1,0 +1,6 @@
+pub mod Options
+pub mod Select
+pub mod Iterate
+pub mod Search
+pub mod inner
+pub mod laws

@@ -1,0 +1,8 @@
+// `search_oneshot` of simulator.rs, on draws and logarithms that the caller lends.
+mod options;
+mod search;
+
+pub use options::SearchOptions;
+pub use search::Found;
+pub use search::Progress;
+pub use search::Searched;

@@ -1,3 +1,0 @@
--- What several proofs share.
--- Assumes nothing.
-pub mod Types
