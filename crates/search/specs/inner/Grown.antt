@@ -8,6 +8,7 @@ use lib.Dec.{T, eqb}
 use lib.Ieee.{le}
 use Rattle.laws.specs.Bits.{has}
 use Rattle.laws.specs.Floats.{float, one}
+use Rattle.action.specs.Known.{actions}
 use Rattle.craft_context.specs.declared.context.CraftContext.{CraftContext}
 use Rattle.moves.specs.declared.mode.Mode.{Mode}
 use Rattle.moves.specs.Modes.{plain, strict}
@@ -34,7 +35,7 @@ isTaken (suc t) nodes k n = isTaken t nodes k n || (isChild t (nodeAt nodes t) k
 pub record Growing (c : CraftContext) (nodes : List Node) (count : ℕ) : Type 0 where
   pub tree : SoundTree nodes count
   pub legal : (k : ℕ) → 0 < k → k < count → has (movesIn c nodes (nodeAt nodes k .parent)) (nodeAt nodes k .action) ≡ true
-  pub left : (k : ℕ) → k < count → (n : ℕ) → has (nodeAt nodes k .unused) n ≡ has (movesIn c nodes k) n && not (isTaken count nodes k n)
+  pub left : (k : ℕ) → k < count → (n : ℕ) → n < actions → has (nodeAt nodes k .unused) n ≡ has (movesIn c nodes k) n && not (isTaken count nodes k n)
   pub once : (j k : ℕ) → 0 < j → j < count → 0 < k → k < count → nodeAt nodes j .parent ≡ nodeAt nodes k .parent
       → nodeAt nodes j .action ≡ nodeAt nodes k .action → j ≡ k
 
