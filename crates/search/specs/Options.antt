@@ -5,7 +5,7 @@ use mathlib.Core.Bool.{Bool, true, not, _&&_}
 use mathlib.Core.List.{List}
 use Prim.Native.Nat.{ℕ, zero, suc}
 use lib.Dec.{leb, ltb}
-use lib.Ieee.{Float, isNan}
+use lib.Ieee.{Float, nan, isNan}
 use lib.ListN.{length, getD}
 use Rattle.laws.specs.Floats.{float, one}
 use Rattle.refusal.specs.Judge.{Test}
@@ -20,7 +20,7 @@ iterationsMost = 4096
 -- ---- the table of logarithms: number v - 1 for v visits
 
 abbrev pub logAt : List Float → ℕ → Float
-logAt logs v = getD logs v (float 0)
+logAt logs v = getD logs v nan
 
 abbrev pub isLog : Float → Bool
 isLog ln = between (float 0) ln (float 17)

@@ -3,6 +3,8 @@ mod options;
 mod search;
 
 pub use options::SearchOptions;
+pub use options::check_search;
+pub use options::ln_at;
 pub use search::Found;
 pub use search::Progress;
 pub use search::Searched;
