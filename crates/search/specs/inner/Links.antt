@@ -20,6 +20,10 @@ lastAt links k = getD links (2 * k) 0
 abbrev pub olderAt : List ℕ → ℕ → ℕ
 olderAt links k = getD links (2 * k + 1) 0
 
+-- a record past the index has no child before it
+abbrev pub lastLink : List ℕ → ℕ → ℕ
+lastLink links k = cond (ltb k linked) (lastAt links k) 0
+
 -- the last child of a record among the first t; 0 where there is none
 unfoldable pub lastBelow : ℕ → List Node → ℕ → ℕ
 lastBelow zero nodes parent = 0
