@@ -3,7 +3,8 @@
 use mathlib.Core.Path.{_≡_, refl, sym, ap, _∙_}
 use mathlib.Core.Bool.{Bool, true, false, not}
 use Prim.Native.Nat.{ℕ, zero, suc, _*_, _^_, _≤_, _<_, zero-le}
-use native.Mathlib.Nat.{le-trans, le-of-eq, lt-irrefl, lt-of-lt-of-le, zero-lt-suc, mul-comm, mul-assoc, mul-right-comm, mul-mul-mul-comm, mul-pos, mul-le-mul, mul-le-mul-right, le-of-mul-le-mul-right, mul-one, zero-mul, mul-zero}
+use native.Mathlib.Nat.{le-trans, le-of-eq, lt-irrefl, lt-of-lt-of-le, zero-lt-suc, mul-comm, mul-assoc, mul-right-comm, mul-mul-mul-comm, mul-pos}
+use native.Mathlib.Nat.{mul-le-mul, mul-le-mul-right, le-of-mul-le-mul-right, mul-one, zero-mul, mul-zero}
 use native.Mathlib.Omega.{arith}
 use lib.Dec.{T}
 use lib.IntN.{ℤ, pos}
@@ -106,7 +107,8 @@ over-one-small f (fin s m e) (fin t n d) b B h g p =
     let k = one-most t n d h .1 in
     div-at-most f s m e t n d b B (some n d k) (no-more (m * up e) (down e) (n * up d) (down d) b p k)
 
-pub over-one-least : (f : Format) (x y : Float) (b : ℕ) → b ≤ 2 ^ prec f → T (le one y) → T (finite y) → Small x b → AtLeast0 x → AtLeast0 (div f x y)
+pub over-one-least : (f : Format) (x y : Float) (b : ℕ) → b ≤ 2 ^ prec f → T (le one y) → T (finite y) → Small x b → AtLeast0 x
+    → AtLeast0 (div f x y)
 unfolding div
 over-one-least f nan y b B h g p l = absurd p
 over-one-least f (inf s) y b B h g p l = absurd p

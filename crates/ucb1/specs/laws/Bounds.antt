@@ -106,7 +106,8 @@ module _ {w c ln visits sum maximum : Float} (fair : Fair w c ln visits sum maxi
       least-within (sqrtOf q) 17 (lit≤ tt) (sqrt-least q q-fits q-least) (sqrt-small q 17 q-fits (lit≤ tt) q-least (small-more q 272 289 (lit≤ tt) q-small))
 
   -- from -1 + 0 + 0 to 1 + 1 + 17, each sum rounded
-  ucb1-within : Within 19 (add binary32 (add binary32 minusOne (float 0)) (float 0)) (ucb1Of w c ln visits sum maximum) (add binary32 (add binary32 one one) (float 17))
+  ucb1-within : Within 19 (add binary32 (add binary32 minusOne (float 0)) (float 0)) (ucb1Of w c ln visits sum maximum)
+      (add binary32 (add binary32 one one) (float 17))
   ucb1-within = add-within binary32 exploitation-within (lit≤ tt) exploration-within
 
   pub ucb1-between : T (between minusOne (ucb1Of w c ln visits sum maximum) (float 19))
