@@ -26,7 +26,7 @@ AtLeast0 x = T (le (float 0) x)
 
 -- ---- it has no minus, or is zero
 
-least-minus : (s : Bool) (m : ℕ) (e : ℤ) → AtLeast0 (fin s m e) → minusBy s (m * up e) ≡ 0
+pub least-minus : (s : Bool) (m : ℕ) (e : ℤ) → AtLeast0 (fin s m e) → minusBy s (m * up e) ≡ 0
 unfolding ofInt
 least-minus false m e h = refl
 least-minus true m e h = omega (arith, le-order (fin false 0 (pos 0)) (fin true m e) tt tt h)
@@ -87,12 +87,12 @@ mul-least f (fin s m e) (fin t n g) b d B p q h k =
 
 -- ---- over what is at least 1
 
-one-most : (t : Bool) (n : ℕ) (d : ℤ) → T (le one (fin t n d)) → (t ≡ false) × (down d ≤ n * up d)
+pub one-most : (t : Bool) (n : ℕ) (d : ℤ) → T (le one (fin t n d)) → (t ≡ false) × (down d ≤ n * up d)
 unfolding ofInt
 one-most true n d h = absurd (omega (arith, le-order (fin false 1 (pos 0)) (fin true n d) tt tt h, down-pos d))
 one-most false n d h = (refl, omega (arith, le-order (fin false 1 (pos 0)) (fin false n d) tt tt h))
 
-some : (n : ℕ) (d : ℤ) → down d ≤ n * up d → 0 < n
+pub some : (n : ℕ) (d : ℤ) → down d ≤ n * up d → 0 < n
 some n d h = first-pos n (up d) (lt-of-lt-of-le (down-pos d) h)
 
 no-more : (x c y d b : ℕ) → x ≤ b * c → d ≤ y → x * d ≤ b * (y * c)
