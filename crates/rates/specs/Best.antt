@@ -1,7 +1,7 @@
 -- Document 02, E7: "Port `search_oneshot` with `select`, `ucb1` ..". Of a record's children `select` of simulator.rs takes the one of the greatest ucb1, and of
 -- equals the last. Newest first, that is the first that none after it is above.
 -- Assumes nothing.
-use mathlib.Core.Bool.{Bool, cond, _||_}
+use mathlib.Core.Bool.{cond, _||_}
 use Prim.Native.Nat.{ℕ}
 use lib.Dec.{eqb}
 use lib.Ieee.{Float, lt}
