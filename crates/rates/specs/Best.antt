@@ -1,5 +1,5 @@
 -- Document 02, E7: "Port `search_oneshot` with `select`, `ucb1` ..". Of a record's children `select` of simulator.rs takes the one of the greatest ucb1, and of
--- equals the last. Newest first, that is the first that none after it is above.
+-- equals the last. In a walk from the newest on, that is the first that no other is above.
 -- Assumes nothing.
 use mathlib.Core.Bool.{cond, _||_}
 use Prim.Native.Nat.{ℕ}
