@@ -4,4 +4,5 @@ pub mod Patterns
 pub mod Cases
 pub mod Right
 pub mod Bounds
+pub mod Order
 pub mod Worked

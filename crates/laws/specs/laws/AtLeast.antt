@@ -3,7 +3,8 @@
 use mathlib.Core.Path.{_≡_, refl, sym, ap, _∙_}
 use mathlib.Core.Bool.{Bool, true, false, not}
 use Prim.Native.Nat.{ℕ, zero, suc, _*_, _^_, _≤_, _<_, zero-le}
-use native.Mathlib.Nat.{le-trans, le-of-eq, lt-irrefl, lt-of-lt-of-le, zero-lt-suc, mul-comm, mul-assoc, mul-right-comm, mul-mul-mul-comm, mul-pos, mul-le-mul, mul-le-mul-right, le-of-mul-le-mul-right, mul-one, zero-mul, mul-zero}
+use native.Mathlib.Nat.{le-trans, le-of-eq, lt-irrefl, lt-of-lt-of-le, zero-lt-suc, mul-comm, mul-assoc, mul-right-comm, mul-mul-mul-comm, mul-pos}
+use native.Mathlib.Nat.{mul-le-mul, mul-le-mul-right, le-of-mul-le-mul-right, mul-one, zero-mul, mul-zero}
 use native.Mathlib.Omega.{arith}
 use lib.Dec.{T}
 use lib.IntN.{ℤ, pos}
@@ -25,7 +26,7 @@ AtLeast0 x = T (le (float 0) x)
 
 -- ---- it has no minus, or is zero
 
-least-minus : (s : Bool) (m : ℕ) (e : ℤ) → AtLeast0 (fin s m e) → minusBy s (m * up e) ≡ 0
+pub least-minus : (s : Bool) (m : ℕ) (e : ℤ) → AtLeast0 (fin s m e) → minusBy s (m * up e) ≡ 0
 unfolding ofInt
 least-minus false m e h = refl
 least-minus true m e h = omega (arith, le-order (fin false 0 (pos 0)) (fin true m e) tt tt h)
@@ -86,12 +87,12 @@ mul-least f (fin s m e) (fin t n g) b d B p q h k =
 
 -- ---- over what is at least 1
 
-one-most : (t : Bool) (n : ℕ) (d : ℤ) → T (le one (fin t n d)) → (t ≡ false) × (down d ≤ n * up d)
+pub one-most : (t : Bool) (n : ℕ) (d : ℤ) → T (le one (fin t n d)) → (t ≡ false) × (down d ≤ n * up d)
 unfolding ofInt
 one-most true n d h = absurd (omega (arith, le-order (fin false 1 (pos 0)) (fin true n d) tt tt h, down-pos d))
 one-most false n d h = (refl, omega (arith, le-order (fin false 1 (pos 0)) (fin false n d) tt tt h))
 
-some : (n : ℕ) (d : ℤ) → down d ≤ n * up d → 0 < n
+pub some : (n : ℕ) (d : ℤ) → down d ≤ n * up d → 0 < n
 some n d h = first-pos n (up d) (lt-of-lt-of-le (down-pos d) h)
 
 no-more : (x c y d b : ℕ) → x ≤ b * c → d ≤ y → x * d ≤ b * (y * c)
@@ -106,7 +107,8 @@ over-one-small f (fin s m e) (fin t n d) b B h g p =
     let k = one-most t n d h .1 in
     div-at-most f s m e t n d b B (some n d k) (no-more (m * up e) (down e) (n * up d) (down d) b p k)
 
-pub over-one-least : (f : Format) (x y : Float) (b : ℕ) → b ≤ 2 ^ prec f → T (le one y) → T (finite y) → Small x b → AtLeast0 x → AtLeast0 (div f x y)
+pub over-one-least : (f : Format) (x y : Float) (b : ℕ) → b ≤ 2 ^ prec f → T (le one y) → T (finite y) → Small x b → AtLeast0 x
+    → AtLeast0 (div f x y)
 unfolding div
 over-one-least f nan y b B h g p l = absurd p
 over-one-least f (inf s) y b B h g p l = absurd p

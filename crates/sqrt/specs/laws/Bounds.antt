@@ -18,11 +18,11 @@ use Rattle.laws.specs.laws.Small.{Small, small-finite, of-nat-small, of-nat-val
 use Rattle.laws.specs.laws.AtLeast.{AtLeast0, positive-least, negative-least, least-no-nan}
 use Rattle.sqrt.specs.Sqrt.{digitsEnd, sqrtOf}
 use Rattle.sqrt.specs.Root.{size, Root}
-use Rattle.sqrt.specs.laws.Patterns.{here-or-on}
+use Rattle.sqrt.specs.laws.Cut.{here-or-on}
 use Rattle.sqrt.specs.laws.Right.{size-is, size-exact, sqrt-right}
 
 -- a number above 0 is a root's number
-above-0 : (m : ℕ) (e : ℤ) → T (positive (fin false (suc m) e))
+pub above-0 : (m : ℕ) (e : ℤ) → T (positive (fin false (suc m) e))
 above-0 m e = lt→ltb 0 (suc m) (zero-lt-suc m)
 
 -- ---- at least 0

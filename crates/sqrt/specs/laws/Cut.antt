@@ -3,12 +3,22 @@
 use mathlib.Core.Path.{_≡_, refl, sym, ap, _∙_}
 use mathlib.Core.Logic.{_⊎_, inl, inr}
 use Prim.Native.Nat.{ℕ, zero, suc, _+_, _-_, _*_, _/_, _^_, _≤_, _<_}
-use native.Mathlib.Nat.{le-antisymm, not-le-of-lt, lt-of-le-of-lt, mul-le-mul, mul-le-mul-left, mul-le-mul-right, mul-add, add-mul, mul-one, one-mul, pow-succ'}
+use native.Mathlib.Nat.{le-antisymm, not-le-of-lt, lt-of-le-of-lt, lt-of-lt-of-le, mul-le-mul, mul-le-mul-left, mul-le-mul-right, mul-add, add-mul, mul-one, one-mul, pow-succ'}
 use native.Mathlib.Omega.{arith}
 use mathlib.Core.Bool.{Bool, true, false, not, cond}
 use lib.Dec.{T, leb, ltb, leb→le, nleb→lt, ltb→lt, nltb→le}
 use borrow.Author.Tests.{lt-ltb, le-ltb}
 use Rattle.sqrt.specs.Sqrt.{digitsEnd, squareEnd, hidden, digit, rootDown, nearer, rootNear}
+
+pub here-or-on : (i n : ℕ) → (i < n) ⊎ (n ≤ i)
+here-or-on i n = go (ltb i n) (ltb→lt i n) (nltb→le i n)
+  where
+    go : (b : Bool) → (T b → i < n) → (T (not b) → n ≤ i) → (i < n) ⊎ (n ≤ i)
+    go true f g = inl (f tt)
+    go false f g = inr (g tt)
+
+next : {i n : ℕ} → i < n → i + 1 ≤ n
+next l = omega arith
 
 -- 2 ^ 46: the square of the least number of 24 digits, which is 2 ^ 23
 abbrev pub squareLeast : ℕ
@@ -35,14 +45,11 @@ down-cut (suc k) n h = digit-cut n (rootDown k (n / 4)) (down-cut k (n / 4) (qua
 
 -- there is one
 cut-le : (n q r : ℕ) → Cut n q → Cut n r → q ≤ r
-cut-le n q r h k = go (leb q r) (leb→le q r) (nleb→lt q r)
-  where
-    go : (b : Bool) → (T b → q ≤ r) → (T (not b) → r < q) → q ≤ r
-    go true f g = f tt
-    go false f g =
-        let l : r + 1 ≤ q = let p = g tt in omega arith in
-        let m : (r + 1) * (r + 1) ≤ q * q = mul-le-mul l l in
-        omega arith
+cut-le n q r h k =
+    elim (here-or-on r q) [
+      | inl l ↦ let m : (r + 1) * (r + 1) ≤ q * q = mul-le-mul (next l) (next l) in absurd (not-le-of-lt (lt-of-lt-of-le (k .1) m) (h .0))
+      | inr g ↦ g
+    ]
 
 cut-one : (n q r : ℕ) → Cut n q → Cut n r → q ≡ r
 cut-one n q r h k = le-antisymm (cut-le n q r h k) (cut-le n r q k h)
@@ -52,11 +59,7 @@ cut-is n r h k = cut-one n r (rootDown 24 n) k (down-cut 24 n h)
 
 -- the root is below m where n is below the square of m
 pub cut-lt : (n r m : ℕ) → n < m * m → r * r ≤ n → r < m
-cut-lt n r m h k = go (leb m r) (leb→le m r) (nleb→lt m r)
-  where
-    go : (b : Bool) → (T b → m ≤ r) → (T (not b) → r < m) → r < m
-    go true f g = let p : m * m ≤ r * r = mul-le-mul (f tt) (f tt) in absurd (not-le-of-lt (lt-of-le-of-lt k h) p)
-    go false f g = g tt
+cut-lt n r m h k = elim (here-or-on r m) [ inl l ↦ l | inr g ↦ absurd (not-le-of-lt (lt-of-le-of-lt k h) (mul-le-mul g g)) ]
 
 -- ---- the nearest whole number
 near-of : (n r : ℕ) → r ≡ rootDown 24 n → rootNear n ≡ nearer n r
@@ -74,14 +77,12 @@ abbrev Between : ℕ → ℕ → Type 0
 Between n p = (0 < p → p * p < n + p) × (n ≤ p * p + p)
 
 between-le : (n p q : ℕ) → Between n p → Between n q → p ≤ q
-between-le n p q h k = go (leb p q) (leb→le p q) (nleb→lt p q)
+between-le n p q h k = elim (here-or-on q p) [ inl l ↦ absurd (apart l) | inr g ↦ g ]
   where
-    go : (b : Bool) → (T b → p ≤ q) → (T (not b) → q < p) → p ≤ q
-    go true f g = f tt
-    go false f g =
-        let l : q + 1 ≤ p = let r = g tt in omega arith in
-        let m : q * q + q ≤ q * p = simp (mul-add, mul-one) at (mul-le-mul-left q l) in
-        let o : q * p + p ≤ p * p = simp (add-mul, one-mul) at (mul-le-mul-right p l) in
+    apart : q < p → ⊥
+    apart l =
+        let m : q * q + q ≤ q * p = simp (mul-add, mul-one) at (mul-le-mul-left q (next l)) in
+        let o : q * p + p ≤ p * p = simp (add-mul, one-mul) at (mul-le-mul-right p (next l)) in
         omega (arith, h .0 (omega arith))
 
 between-up : (n r : ℕ) → n < (r + 1) * (r + 1) → r < n - r * r → Between n (r + 1)
@@ -104,7 +105,8 @@ guess-near n p h k l =
     let r = nearer n (rootDown 24 n) in
     le-antisymm (between-le n p r (λ _. k, l) near) (between-le n r p near (λ _. k, l))
 
--- p is the whole number nearest to √n, which is from 2 ^ 23 up to 2 ^ 24. The first part says that √n is above p - 1 / 2, and where p is 2 ^ 23, that it is no less than p.
+-- p is the whole number nearest to √n, which is from 2 ^ 23 up to 2 ^ 24. The first part says that √n is above p - 1 / 2, and where p is 2 ^ 23,
+-- that it is no less than p.
 abbrev pub Near : ℕ → ℕ → Type 0
 Near n p =
     ((p * p ≤ n) ⊎ ((r : ℕ) × (p ≡ r + 1) × (hidden ≤ r) × ((2 * r + 1) * (2 * r + 1) < 4 * n)))

@@ -1,25 +1,19 @@
 -- The bit patterns of binary32's values that are above 0 and finite: they lie above 0 and below the infinity's, and what number each stands for.
 -- Assumes nothing.
 use mathlib.Core.Path.{_≡_, refl, sym, ap, _∙_, subst}
-use mathlib.Core.Logic.{_⊎_, inl, inr}
+use mathlib.Core.Logic.{inl, inr}
 use Prim.Native.Nat.{ℕ, zero, suc, _+_, _-_, _*_, _/_, _%_, _^_, _≤_, _<_}
 use native.Mathlib.Nat.{mod-eq-of-lt}
 use native.Mathlib.Omega.{arith}
 use mathlib.Core.Bool.{Bool, true, false, not, cond}
-use lib.Dec.{T, leb, ltb, eqb, ltb→lt, nltb→le}
+use lib.Dec.{T, leb, ltb, eqb, ltb→lt}
 use borrow.Author.Tests.{lt-leb, le-leb, lt-ltb, le-ltb, ne-eqb}
 use lib.Ieee.{Float, nan, inf, binary32, odd, ofFields, ofBits, toBits, fits, nanBits}
 use lib.Ieee.Bits.{ofBits-toBits, nanBits-above}
 use lib.Ieee.Exact.{HasValue, odd-sign}
 use lib.Ieee.Positive.{positive}
+use Rattle.sqrt.specs.laws.Cut.{here-or-on}
 use Rattle.sqrt.specs.Sqrt.{digitsEnd, infinityBits, hidden, significand, exponent, rootOf, rootBits}
-
-pub here-or-on : (i n : ℕ) → (i < n) ⊎ (n ≤ i)
-here-or-on i n = go (ltb i n) (ltb→lt i n) (nltb→le i n)
-  where
-    go : (b : Bool) → (T b → i < n) → (T (not b) → n ≤ i) → (i < n) ⊎ (n ≤ i)
-    go true f g = inl (f tt)
-    go false f g = inr (g tt)
 
 -- 2 ^ 31: the patterns from here on have the sign set
 abbrev signBit : ℕ

@@ -3,7 +3,8 @@
 use mathlib.Core.Path.{_≡_, refl, sym, ap, _∙_, subst}
 use mathlib.Core.Logic.{inl, inr}
 use Prim.Native.Nat.{ℕ, zero, suc, _+_, _-_, _*_, _/_, _%_, _^_, _≤_, _<_}
-use native.Mathlib.Nat.{le-trans, le-of-lt, lt-of-lt-of-le, lt-irrefl, mul-comm, mul-assoc, mul-one, mul-pos, mul-le-mul, mul-le-mul-right, mul-lt-mul-of-pos-right, mul-div-cancel, pow-succ', add-comm, le-antisymm}
+use native.Mathlib.Nat.{le-trans, le-of-lt, lt-of-lt-of-le, lt-irrefl, mul-comm, mul-assoc, mul-one, mul-pos, mul-le-mul, mul-le-mul-right}
+use native.Mathlib.Nat.{mul-lt-mul-of-pos-right, mul-div-cancel, pow-succ', add-comm, le-antisymm}
 use native.Mathlib.Omega.{arith}
 use mathlib.Core.Bool.{Bool, true, false, _&&_}
 use borrow.Author.Tests.{le-ltb}
@@ -18,9 +19,9 @@ use lib.Ieee.Scale.{finite}
 use lib.Ieee.Positive.{positive, positive-of-value, positive-finite}
 use Rattle.sqrt.specs.Sqrt.{digitsEnd, infinityBits, hidden, significand, exponent, shift, place, rootNear, rootOf, rootBits, sqrtOf}
 use Rattle.sqrt.specs.Root.{size, Root}
-use Rattle.sqrt.specs.laws.Cut.{Near, near}
+use Rattle.sqrt.specs.laws.Cut.{here-or-on, Near, near}
 use Rattle.sqrt.specs.laws.Scaled.{scaled-lt, scaled-ge, even}
-use Rattle.sqrt.specs.laws.Patterns.{here-or-on, val, bits-is, in-range, significand-pos, significand-lt, exponent-lt}
+use Rattle.sqrt.specs.laws.Patterns.{val, bits-is, in-range, significand-pos, significand-lt, exponent-lt}
 use Rattle.sqrt.specs.laws.Cases.{at-positive}
 
 -- ---- sizes
@@ -95,7 +96,8 @@ floor q i p j hq hp h = elim (here-or-on i j) [ inl l ↦ fine l | inr g ↦ coa
 
     coarse : j ≤ i → q * 2 ^ i ≤ p * 2 ^ j
     coarse g =
-        let e : q * 2 ^ i ≡ q * 2 ^ (i - j) * 2 ^ j = ap (λ (z : ℕ). q * 2 ^ z) (back i j g) ∙ ap (λ (z : ℕ). q * z) (pow-add 2 (i - j) j) ∙ sym (mul-assoc q (2 ^ (i - j)) (2 ^ j)) in
+        let e : q * 2 ^ i ≡ q * 2 ^ (i - j) * 2 ^ j =
+        ap (λ (z : ℕ). q * 2 ^ z) (back i j g) ∙ ap (λ (z : ℕ). q * z) (pow-add 2 (i - j) j) ∙ sym (mul-assoc q (2 ^ (i - j)) (2 ^ j)) in
         subst (λ (z : ℕ). z ≤ p * 2 ^ j) (sym e)
         (mul-le-mul-right (2 ^ j) (below (q * 2 ^ (i - j)) (subst (λ (z : ℕ). z < (p + 1) * 2 ^ j) e h)))
       where

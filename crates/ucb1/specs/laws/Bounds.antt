@@ -78,7 +78,7 @@ module _ {w c ln visits sum maximum : Float} (fair : Fair w c ln visits sum maxi
       over-size binary32 visits sum (fair .visited) (fair .counted) (and-left (le (neg visits) sum) (le sum visits) (fair .sum-in))
       (and-right (le (neg visits) sum) (le sum visits) (fair .sum-in))
 
-  exploitation-within : Within 2 (add binary32 minusOne (float 0)) (exploitationOf w visits sum maximum) (add binary32 one one)
+  pub exploitation-within : Within 2 (add binary32 minusOne (float 0)) (exploitationOf w visits sum maximum) (add binary32 one one)
   exploitation-within =
       let w-small = between-small w 1 (lit≤ tt) (fair .weight) in
       let m-small = between-small maximum 1 (lit≤ tt) (fair .maximum-in) in
@@ -90,23 +90,34 @@ module _ {w c ln visits sum maximum : Float} (fair : Fair w c ln visits sum maxi
       (least-within (mul binary32 w maximum) 1 (lit≤ tt) (mul-least binary32 w maximum 1 1 (lit≤ tt) w-small m-small w-least m-least)
       (mul-small binary32 w maximum 1 1 (lit≤ tt) w-small m-small))
 
-  exploration-within : Within 17 (float 0) (explorationOf c ln visits) (float 17)
+  abbrev product : Float
+  product = mul binary32 c ln
+
+  pub product-small : Small product 272
+  product-small =
+      mul-small binary32 c ln 16 17 (lit≤ tt) (between-small c 16 (lit≤ tt) (fair .exploration)) (between-small ln 17 (lit≤ tt) (fair .log))
+
+  pub product-least : AtLeast0 product
+  product-least =
+      mul-least binary32 c ln 16 17 (lit≤ tt) (between-small c 16 (lit≤ tt) (fair .exploration)) (between-small ln 17 (lit≤ tt) (fair .log))
+      (between-least c 16 (lit≤ tt) (fair .exploration)) (between-least ln 17 (lit≤ tt) (fair .log))
+
+  pub quotient-small : Small (div binary32 product visits) 272
+  quotient-small = over-one-small binary32 product visits 272 (lit≤ tt) (fair .visited) (fair .counted) product-small
+
+  pub quotient-least : AtLeast0 (div binary32 product visits)
+  quotient-least = over-one-least binary32 product visits 272 (lit≤ tt) (fair .visited) (fair .counted) product-small product-least
+
+  pub exploration-within : Within 17 (float 0) (explorationOf c ln visits) (float 17)
   exploration-within =
-      let c-small = between-small c 16 (lit≤ tt) (fair .exploration) in
-      let ln-small = between-small ln 17 (lit≤ tt) (fair .log) in
-      let c-least = between-least c 16 (lit≤ tt) (fair .exploration) in
-      let ln-least = between-least ln 17 (lit≤ tt) (fair .log) in
-      let p = mul binary32 c ln in
-      let q = div binary32 p visits in
-      let p-small : Small p 272 = mul-small binary32 c ln 16 17 (lit≤ tt) c-small ln-small in
-      let p-least : AtLeast0 p = mul-least binary32 c ln 16 17 (lit≤ tt) c-small ln-small c-least ln-least in
-      let q-small : Small q 272 = over-one-small binary32 p visits 272 (lit≤ tt) (fair .visited) (fair .counted) p-small in
-      let q-least : AtLeast0 q = over-one-least binary32 p visits 272 (lit≤ tt) (fair .visited) (fair .counted) p-small p-least in
-      let q-fits = div-fits binary32 p visits in
-      least-within (sqrtOf q) 17 (lit≤ tt) (sqrt-least q q-fits q-least) (sqrt-small q 17 q-fits (lit≤ tt) q-least (small-more q 272 289 (lit≤ tt) q-small))
+      let q = div binary32 product visits in
+      let f = div-fits binary32 product visits in
+      least-within (sqrtOf q) 17 (lit≤ tt) (sqrt-least q f quotient-least)
+      (sqrt-small q 17 f (lit≤ tt) quotient-least (small-more q 272 289 (lit≤ tt) quotient-small))
 
   -- from -1 + 0 + 0 to 1 + 1 + 17, each sum rounded
-  ucb1-within : Within 19 (add binary32 (add binary32 minusOne (float 0)) (float 0)) (ucb1Of w c ln visits sum maximum) (add binary32 (add binary32 one one) (float 17))
+  ucb1-within : Within 19 (add binary32 (add binary32 minusOne (float 0)) (float 0)) (ucb1Of w c ln visits sum maximum)
+      (add binary32 (add binary32 one one) (float 17))
   ucb1-within = add-within binary32 exploitation-within (lit≤ tt) exploration-within
 
   pub ucb1-between : T (between minusOne (ucb1Of w c ln visits sum maximum) (float 19))
