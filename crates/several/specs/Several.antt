@@ -72,9 +72,9 @@ grownOf logs draws count zero p = p
 grownOf logs draws count (suc k) p = ranOf logs draws count (grownOf logs draws count k p)
 
 abbrev pub linksMost : ℕ
-linksMost = 64
+linksMost = 8192
 
-abbrev pub noLinks : List ℕ
+unfoldable pub noLinks : List ℕ
 noLinks = replicate linksMost 0
 
 abbrev pub grownNodes : ℕ → List Node → List Float → List ℕ → ℕ → List Node

@@ -139,7 +139,7 @@ pub fn grow(nodes: &mut [Node], logs: &[f32], draws: &[u8], count: usize, times:
     requires { ⌜ (count ≤ linksMost) × Fits count (now nodes) noLinks (now logs) (now draws) ⌝ }
     ensures { λ _. ⌜ now (nodes .exit) ≡ grownNodes count (now (nodes .entry)) (now (logs .entry)) (now (draws .entry)) times ⌝ }
 {
-    let mut links = [0u32; 64];
+    let mut links = [0u32; 8192];
     let mut k = 0;
     while k < times {
         iterate(nodes, &mut links, logs, draws, count);
