@@ -10,7 +10,8 @@ use Rattle.craft_context.specs.declared.context.CraftContext.{CraftContext}
 use Rattle.craft_state.specs.declared.state.CraftState.{CraftState}
 use Rattle.craft_state.specs.Start.{startOf}
 use Rattle.step.specs.Step.{executeOf}
-use Rattle.ucb1.specs.Ucb1.{ucb1Of}
+use Rattle.rates.specs.declared.Weights.{Weights}
+use Rattle.rates.specs.Best.{rateOf}
 use Rattle.tree.specs.declared.node.Node.{Node}
 use Rattle.tree.specs.Tree.{nodeAt, bestBy}
 use Rattle.search.specs.declared.options.SearchOptions.{SearchOptions}
@@ -22,12 +23,14 @@ use Rattle.search.specs.Options.{logAt}
 abbrev pub lnOf : List Float → Float → Float
 lnOf logs visits = logAt logs (toUnsigned 64 visits - 1)
 
--- the ucb1 of a child, with the logarithm of its parent's visits
-abbrev pub rateOf : SearchOptions → Float → Node → Float
-rateOf o ln n = ucb1Of (o .«max_score_weighting_constant») (o .«exploration_constant») ln (n .visits) (n .«score_sum») (n .«max_score»)
+-- what the children of one record are rated by, with the logarithm of its visits
+abbrev pub weightsOf : SearchOptions → Float → Weights
+weightsOf o ln = record { w = o .«max_score_weighting_constant»; c = o .«exploration_constant»; ln = ln }
 
+-- the ucb1 of child k
 abbrev pub rateAt : SearchOptions → List Float → List Node → ℕ → ℕ → Float
-rateAt o logs nodes parent k = rateOf o (lnOf logs (nodeAt nodes parent .visits)) (nodeAt nodes k)
+rateAt o logs nodes parent k =
+    rateOf (nodeAt nodes k .visits) (nodeAt nodes k .«score_sum») (nodeAt nodes k .«max_score») (weightsOf o (lnOf logs (nodeAt nodes parent .visits)))
 
 -- the record that comes after record k; 0 where the way down ends, since record 0 is no child
 abbrev pub nextOf : SearchOptions → List Float → List Node → ℕ → ℕ → ℕ
