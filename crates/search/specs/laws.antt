@@ -1,2 +1,4 @@
 pub mod States
 pub mod Taken
+pub mod Moves
+pub mod Below
