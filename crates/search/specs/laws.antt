@@ -2,3 +2,4 @@ pub mod States
 pub mod Taken
 pub mod Moves
 pub mod Below
+pub mod Visits
