@@ -3,3 +3,5 @@ pub mod Taken
 pub mod Moves
 pub mod Below
 pub mod Visits
+pub mod Upward
+pub mod Stored
