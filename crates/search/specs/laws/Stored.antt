@@ -107,3 +107,35 @@ module _ (c : CraftContext) where
       (sym (below-state c nodes count k action growing inside l (sampled .0)))
       (rw (below-new nodes count k action (movesOf c (executeOf c (stateAt c nodes k) action) strict) inside l) (rw here at (sampled .1)))
       (rw below-length (omega arith))))
+
+-- ---- the way up from the last of them
+
+last-is : (count k m : ℕ) → lastStored count k (suc m) ≡ count + m
+last-is count k m = rw eqb·suc-zero (omega arith)
+
+pub last-inside : (count k n : ℕ) → k < count → lastStored count k n < count + n
+last-inside count k zero h = rw add-zero h
+last-inside count k (suc m) h = rw last-is (omega arith)
+
+module _ {c : CraftContext} {nodes : List Node} {count k n : ℕ} {after : List Node} (st : Stored c nodes count k n after) where
+  chain-up : (m i : ℕ) → i ≤ m → m < n → elem (pathOf after (count + m) 0) (count + i) ≡ true
+  chain-up zero i a h = let e : i ≡ 0 = omega arith in rw e (path-starts after (count + 0) 0)
+  chain-up (suc m) i a h = ⊎-elim here (λ l. above (chain-up m i (omega arith) (omega arith))) (last-or-below i (suc m) (omega arith))
+    where
+      here : i ≡ suc m → elem (pathOf after (count + suc m) 0) (count + i) ≡ true
+      here e = rw e (path-starts after (count + suc m) 0)
+
+      above : elem (pathOf after (count + m) 0) (count + i) ≡ true → elem (pathOf after (count + suc m) 0) (count + i) ≡ true
+      above is =
+          path-longer after (count + n) (tree-falls (st .growing .tree)) (count + suc m) (omega arith) (omega arith) (count + i)
+          (rw (st .chain (suc m) h ∙ last-is count k m) is)
+
+  -- each new record is on it
+  pub stored-path : (j : ℕ) → count ≤ j → j < count + n → elem (pathOf after (lastStored count k n) 0) j ≡ true
+  stored-path j a b = go n refl
+    where
+      go : (t : ℕ) → n ≡ t → elem (pathOf after (lastStored count k t) 0) j ≡ true
+      go zero e = absurd (omega arith)
+      go (suc m) e =
+          let split : count + (j - count) ≡ j = omega arith in
+          rw (last-is count k m, ← split) (chain-up m (j - count) (omega arith) (omega arith))
