@@ -5,3 +5,4 @@ pub mod Below
 pub mod Visits
 pub mod Upward
 pub mod Stored
+pub mod Touched

@@ -113,5 +113,8 @@ module _ (x : Float) (is : isCount x ≡ true) where
             let bound : toUnsigned 64 visitsMost ≤ n = truncated-small 64 visitsMost n (zero-small visitsMost (float n) n value zero-most over) in
             absurd (omega (arith, most-back))
 
+pub float-finite : (n : ℕ) → n ≤ countMost → T (finite (float n))
+float-finite n h = count-finite (float n) (float-count n h)
+
 pub float-more : (n : ℕ) → n < countMost → add binary32 (float n) one ≡ float (n + 1)
 float-more n h = counted (float n) (float-count n (omega arith)) ∙ ap (λ (k : ℕ). float (k + 1)) (float-back n (omega arith))
