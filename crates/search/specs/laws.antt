@@ -6,3 +6,6 @@ pub mod Visits
 pub mod Upward
 pub mod Stored
 pub mod Touched
+pub mod Planted
+pub mod Asked
+pub mod Legal
