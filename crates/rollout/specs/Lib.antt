@@ -1,1 +1,2 @@
 pub mod Rollout
+pub mod laws

@@ -1,3 +1,4 @@
+pub mod Asked
 pub mod Links
 pub mod Newest
 pub mod Grown

@@ -1,2 +1,12 @@
 pub mod States
 pub mod Options
+pub mod Taken
+pub mod Moves
+pub mod Below
+pub mod Visits
+pub mod Upward
+pub mod Stored
+pub mod Touched
+pub mod Planted
+pub mod Asked
+pub mod Legal
