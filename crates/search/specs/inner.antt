@@ -2,3 +2,4 @@ pub mod Asked
 pub mod Links
 pub mod Newest
 pub mod Grown
+pub mod Ready

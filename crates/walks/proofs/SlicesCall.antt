@@ -388,4 +388,4 @@ module _ {M : Type 1} {𝓤 : URA M} {H : Heap 𝓤} {A : Atoms 𝓤} {K : Type 
       move t (1 ∷ []) $ split t $ move t (1 ∷ []) $ result s (𝓣 .C) (𝓣 .Λ) E P t (F .gives) r w (λ is ty.
       use3 W (later (provided (LeftFor ps Z) (raw (Both H A (lefts H A ps Z))))) (comes 𝓤 H A W n ks κs b ps 0 π c refl ws) $ await t (soaks s (𝓣 .C) (𝓣 .Λ) E (F .gives .val r) P) $ learn t (λ long.
       changes t (left-at H A ps Z Γ) (via 𝓤 _ (pop 𝓤 H A (raw (Both H A (lefts H A ps Z))) (blank H A ps Γ)) (all-in H A W ps (lefts H A ps Z) Γ)) $
-      k r Z is ty long (subst (λ (X : Lists (taken ps)). F .says X a r Z) lists-are (subst (λ (c : Data ks). F .says (entered F κs x) c r Z) plain-are e))))))))) 
+      k r Z is ty long (subst (λ (X : Lists (taken ps)). F .says X a r Z) lists-are (subst (λ (c : Data ks). F .says (entered F κs x) c r Z) plain-are e)))))))))
