@@ -1,0 +1,52 @@
+// The rollout: from a state on, draws sample from its strict moves until a state has a result.
+ghost use mathlib.Core.Path.{_≡_};
+ghost use Prim.Native.Nat.{_≤_};
+ghost use lib.ListN.{length, drop};
+ghost use Rattle.craft_state.specs.Inside.{CraftIn};
+ghost use Rattle.moves.specs.Modes.{strict};
+ghost use Rattle.moves.specs.Moves.{movesOf};
+ghost use Rattle.rollout.specs.Rollout.{rolledOf};
+ghost use Rattle.rollout.specs.inner.Within.{Within};
+use super::draws::Drawn;
+use super::draws::draw;
+use craft_context::CraftContext;
+use craft_state::CraftState;
+use refusal::Refusal;
+use score::CraftResult;
+
+pub enum Rolled {
+    // The result, and the place after the last draw that was used.
+    Ended(CraftResult, usize),
+    Refused(Refusal),
+}
+
+// From a state with its strict moves, and from a place in the draws. A state with none of them has a result.
+pub fn roll_out(
+    context: CraftContext,
+    start: CraftState,
+    start_moves: u32,
+    draws: &[u8],
+    first: usize,
+) -> Rolled
+    requires { ⌜ CraftIn context start × («start_moves» ≡ movesOf context start strict) × (first ≤ length (now draws)) ⌝ }
+    ensures { λ r. ⌜ (r ≡ rolledOf context start first (drop first (now (draws .entry)))) × Within (length (now (draws .entry))) r ⌝ }
+{
+    let mut state = start;
+    let mut moves = start_moves;
+    let mut at = first;
+    loop {
+        if moves == 0 {
+            break Rolled::Ended(score::judge_single(context, state, moves), at);
+        }
+        let drawn = draw(moves, draws, at);
+        match drawn {
+            Drawn::Refused(x) => break Rolled::Refused(x),
+            Drawn::Member(n) => {
+                let row = action::attributes_of(n);
+                state = step::execute_single(context, state, n, row);
+                moves = moves::strict_at_once(context, state);
+                at += 1;
+            }
+        }
+    }
+}
