@@ -1,1 +1,3 @@
+pub mod Draws
+pub mod Rollout
 pub mod RolledSampled
