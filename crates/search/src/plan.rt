@@ -87,7 +87,7 @@ fn in_room(count: usize, records: usize, result: CraftResult, end: usize, stored
 }
 
 // The rollout's first draw is of the record's unused moves; with none of them it ends where it starts.
-pub fn plan(
+pub fn planned(
     draws: &[u8],
     context: CraftContext,
     threshold: f32,
