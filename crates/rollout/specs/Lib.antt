@@ -1,4 +1,5 @@
 pub mod Draws
 pub mod Rollout
+pub mod Promise
 pub mod inner
 pub mod laws

@@ -1,2 +1,4 @@
 pub mod Draws
 pub mod Rollout
+pub mod Promise
+pub mod Worked
