@@ -1,27 +1,22 @@
 -- `rollout::draws::draw` meets its contract.
 -- Assumes nothing.
-use mathlib.Core.Path.{ap, subst, _∙_}
-use Prim.Native.Nat.{ℕ, _≤_, _<_}
+use mathlib.Core.Path.{ap, _∙_}
 use native.Mathlib.Omega.{arith}
 use borrow.Author.Needs.{needs}
-use lib.ListN.{getD}
 use Rattle.rollout.specs.declared.draws.Drawn.the-variants.{Member}
 use Rattle.rollout.specs.laws.Draws.{drawn-none, drawn-high, drawn-member}
 use Rattle.rollout.proofs.draws.draw.Statement.{statement}
 use Rattle.rollout.proofs.draws.draw.Tie as tie
 
--- the draw is held to the size as the code counts it
 high : tie.Need-returns-2
 high c =
     let s = c .before .before .before .before .before in
-    let n = getD (s .args .draws .now) (s .args .at) 0 in
-    drawn-high (s .args .set) (s .args .draws .now) (s .args .at) (omega arith) (subst (λ (size : ℕ). size ≤ n) (c .before .size .ensures) (c .if2 .taken))
+    drawn-high (s .args .set) (s .args .draws .now) (s .args .at) (omega arith) (omega (arith, c .if2 .taken, c .before .size .ensures))
 
 low : tie.Need-nth-requires
 low c κs =
     let s = c .before .before .before .before .before in
-    let n = getD (s .args .draws .now) (s .args .at) 0 in
-    (s .pre, subst (λ (size : ℕ). n < size) (c .before .size .ensures) (c .if2 .left))
+    (s .pre, omega (arith, c .if2 .left, c .before .size .ensures))
 
 named : tie.Need-returns-3
 named c =
