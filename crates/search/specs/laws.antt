@@ -9,3 +9,5 @@ pub mod Touched
 pub mod Planted
 pub mod Asked
 pub mod Legal
+pub mod Rated
+pub mod Descend
