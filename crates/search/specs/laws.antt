@@ -11,3 +11,4 @@ pub mod Asked
 pub mod Legal
 pub mod Rated
 pub mod Descend
+pub mod Iterate
