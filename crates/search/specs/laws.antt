@@ -12,3 +12,4 @@ pub mod Legal
 pub mod Rated
 pub mod Descend
 pub mod Iterate
+pub mod Path
