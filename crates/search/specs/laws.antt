@@ -13,3 +13,4 @@ pub mod Rated
 pub mod Descend
 pub mod Iterate
 pub mod Path
+pub mod Search
