@@ -11,6 +11,8 @@ pub mod Asked
 pub mod Legal
 pub mod Rated
 pub mod Descend
+pub mod Newest
+pub mod Links
 pub mod Iterate
 pub mod Path
 pub mod Search
