@@ -17,6 +17,9 @@ use Rattle.tree.specs.declared.node.Node.{Node}
 use Rattle.tree.specs.Tree.{nodeAt, isChild}
 use Rattle.tree.specs.laws.Tree.{last-or-below}
 use Rattle.search.specs.inner.Links.{linked, lastAt, olderAt, lastBelow, topOf, Links, linkOf}
+use Rattle.search.specs.Iterate.{belowOf}
+use Rattle.search.specs.laws.States.{Alike}
+use Rattle.search.specs.laws.Below.{below-new, below-alike}
 use Rattle.search.specs.laws.Newest.{betterAt, newestFrom}
 
 -- ---- the last child among the first t records
@@ -182,3 +185,12 @@ module _ (nodes others : List Node) (count parent : ℕ) (links : List ℕ) (sam
           → Links others (suc count) (cond t (set (set links (2 * count + 1) (lastAt links parent)) (2 * parent) count) links)
       go true e = linked-inside (ltb-true count linked e)
       go false e = linked-outside (ltb-false count linked e)
+
+-- ---- so it is kept by what an iteration does
+
+-- where one record is stored
+pub links-below : (nodes : List Node) (count k action moves : ℕ) (links : List ℕ) → k < count → count < length nodes → Links nodes count links
+    → Links (belowOf nodes count k action moves) (suc count) (linkOf links k count)
+links-below nodes count k action moves links inside room l =
+    links-more nodes (belowOf nodes count k action moves) count k links (below-alike nodes count k action moves inside room .parent)
+    (ap (λ (n : Node). n .parent) (below-new nodes count k action moves inside room)) inside l

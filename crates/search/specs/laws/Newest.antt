@@ -28,7 +28,7 @@ use Rattle.search.specs.Options.{iterationsMost}
 use Rattle.search.specs.Select.{rateAt}
 use Rattle.search.specs.inner.Grown.{Visited}
 use Rattle.search.specs.laws.Asked.{Asked}
-use Rattle.search.specs.laws.Descend.{best-child}
+use Rattle.search.specs.laws.Descend.{picked-child}
 use Rattle.search.specs.laws.Rated.{child-finite}
 
 -- record k in place of the one found, 0 where there is none yet
@@ -155,7 +155,7 @@ module _ (rate : ℕ → Float) (nodes : List Node) (count parent : ℕ) where
             go : (b : ℕ) → bestBy rate count nodes parent ≡ b → 0 ≡ b
             go zero e = refl
             go (suc b) e =
-                let is = best-child rate nodes count parent (omega (arith, e)) in
+                let is = picked-child rate nodes count parent (omega (arith, e)) in
                 absurd (n .childless (bestBy rate count nodes parent) (omega arith) (is .0) (is .1))
 
         leads : Leads 0 found → found ≡ bestBy rate count nodes parent
