@@ -11,6 +11,7 @@ pub mod Legal
 pub mod Rated
 pub mod Descend
 pub mod Newest
+pub mod DeadEnd
 pub mod Links
 pub mod Touched
 pub mod Iterate

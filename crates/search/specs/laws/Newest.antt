@@ -143,8 +143,11 @@ module _ (rate : ℕ → Float) (nodes : List Node) (count parent : ℕ) where
     listed : (j : ℕ) → elem (childrenOf count nodes parent) j ≡ true → (j < count) × Child j
     listed j e = let is = both (ltb j count) (isChild j (nodeAt nodes j) parent) (sym (children-each nodes parent count j) ∙ e) in (ltb-true j count (is .0), is .1)
 
+    walked : None 0 (newestFrom rate count nodes parent 0) ⊎ Leads 0 (newestFrom rate count nodes parent 0)
+    walked = down count 0 (le-refl count) (inl (record { none = refl; childless = λ j a h is. omega arith }))
+
     pub newest-best : newestFrom rate count nodes parent 0 ≡ bestBy rate count nodes parent
-    newest-best = ⊎-elim none leads (down count 0 (le-refl count) (inl (record { none = refl; childless = λ j a h is. omega arith })))
+    newest-best = ⊎-elim none leads walked
       where
         found : ℕ
         found = newestFrom rate count nodes parent 0
@@ -173,14 +176,21 @@ module _ (rate : ℕ → Float) (nodes : List Node) (count parent : ℕ) where
                 after : leb j found ≡ false → yields rate found j ≡ true
                 after q = yields-less rate j found (l .last j (leb-false j found q) (listed j e .0) (listed j e .1))
 
+    -- where none is picked there is no child
+    pub picked-none : bestBy rate count nodes parent ≡ 0 → (j : ℕ) → j < count → Child j → ⊥
+    picked-none e j h is = ⊎-elim (λ n. n .childless j (omega arith) h is) (λ l. true-false (sym (rw (newest-best ∙ e) at (l .child)))) walked
+
 -- ---- so it is in the records of a search, where every rate is finite
 
 module _ (c : CraftContext) (o : SearchOptions) (logs : List Float) (asked : Asked c o logs) (nodes : List Node) (count done : ℕ) (tree : SoundTree nodes count)
     (visited : Visited nodes count done) (few : done ≤ iterationsMost) (parent : ℕ) where
+  rated-finite : (k : ℕ) → k < count → isChild k (nodeAt nodes k) parent ≡ true → T (finite (rateAt o logs nodes parent k))
+  rated-finite k h is =
+      let some : k ≡ 0 → ⊥ = eqb-false k 0 (not-true (eqb k 0) (both (not (eqb k 0)) (eqb (nodeAt nodes k .parent) parent) is .0)) in
+      rw (child-parent k (nodeAt nodes k) parent is) at (child-finite nodes count done tree visited few k (omega arith) h c o logs asked)
+
   pub rated-newest : newestFrom (rateAt o logs nodes parent) count nodes parent 0 ≡ bestBy (rateAt o logs nodes parent) count nodes parent
-  rated-newest = newest-best (rateAt o logs nodes parent) nodes count parent each
-    where
-      each : (k : ℕ) → k < count → Child (rateAt o logs nodes parent) nodes count parent k → T (finite (rateAt o logs nodes parent k))
-      each k h is =
-          let some : k ≡ 0 → ⊥ = eqb-false k 0 (not-true (eqb k 0) (both (not (eqb k 0)) (eqb (nodeAt nodes k .parent) parent) is .0)) in
-          rw (child-parent k (nodeAt nodes k) parent is) at (child-finite nodes count done tree visited few k (omega arith) h c o logs asked)
+  rated-newest = newest-best (rateAt o logs nodes parent) nodes count parent rated-finite
+
+  pub rated-none : bestBy (rateAt o logs nodes parent) count nodes parent ≡ 0 → (k : ℕ) → k < count → isChild k (nodeAt nodes k) parent ≡ true → ⊥
+  rated-none = picked-none (rateAt o logs nodes parent) nodes count parent rated-finite
