@@ -8,7 +8,6 @@ use Prim.Native.Nat.{ℕ, zero, suc, _+_, _*_, _≤_, _<_}
 use native.Mathlib.Nat.{le-refl}
 use native.Mathlib.Omega.{arith}
 use lib.Dec.{eqb, ltb, lit≤}
-use lib.Ieee.{Float}
 use lib.ListN.{length, set, replicate, length-set, length-replicate, getD-replicate}
 use lib.Seq.{getD-set-same, getD-set-other}
 use borrow.Author.Tests.{lt-ltb, le-ltb, ltb-true, ltb-false, eq-eqb, ne-eqb, eqb-true, eqb-false}
@@ -16,11 +15,14 @@ use Rattle.laws.specs.laws.Tests.{true-false, either}
 use Rattle.tree.specs.declared.node.Node.{Node}
 use Rattle.tree.specs.Tree.{nodeAt, isChild}
 use Rattle.tree.specs.laws.Tree.{last-or-below}
+use Rattle.rates.specs.declared.Best.{Best}
+use Rattle.rates.specs.declared.Weights.{Weights}
+use Rattle.search.specs.inner.Newest.{betterNode, bestDown}
 use Rattle.search.specs.inner.Links.{linked, lastAt, olderAt, lastBelow, topOf, Links, linkOf}
 use Rattle.search.specs.Iterate.{belowOf}
 use Rattle.search.specs.laws.States.{Alike}
 use Rattle.search.specs.laws.Below.{below-new, below-alike}
-use Rattle.search.specs.laws.Newest.{betterAt, newestFrom}
+use Rattle.search.specs.laws.Newest.{down-child}
 
 -- ---- the last child among the first t records
 
@@ -52,34 +54,20 @@ module _ (nodes : List Node) (parent : ℕ) where
       go true e a rest = absurd (omega arith)
       go false e a rest = ⊎-elim (λ q. rw q e) (λ l. rest a l) (last-or-below j k h)
 
-  -- so the best child, newest first, goes on there, and is found where there is none
-  pub newest-skips : (rate : ℕ → Float) (t best : ℕ) → 0 < lastBelow t nodes parent
-      → newestFrom rate t nodes parent best ≡ newestFrom rate (lastBelow t nodes parent) nodes parent (betterAt rate best (lastBelow t nodes parent))
-  unfolding lastBelow newestFrom
-  newest-skips rate zero best some = absurd (omega arith)
-  newest-skips rate (suc k) best some = go (isChild k (nodeAt nodes k) parent) some (newest-skips rate k best)
+  -- so from record t on the best child is that from the last one on; where there is none record 0 is left, which is no child
+  pub down-skips : (weights : Weights) (t : ℕ) (best : Best)
+      → bestDown weights nodes parent t best ≡ bestDown weights nodes parent (lastBelow t nodes parent + 1) best
+  unfolding lastBelow bestDown
+  down-skips weights zero best = refl
+  down-skips weights (suc k) best = go (isChild k (nodeAt nodes k) parent) refl (down-skips weights k best)
     where
       below : ℕ
       below = lastBelow k nodes parent
 
-      go : (t : Bool) → 0 < cond t k below
-          → (0 < below → newestFrom rate k nodes parent best ≡ newestFrom rate below nodes parent (betterAt rate best below))
-          → newestFrom rate k nodes parent (cond t (betterAt rate best k) best)
-          ≡ newestFrom rate (cond t k below) nodes parent (betterAt rate best (cond t k below))
-      go true some rest = refl
-      go false some rest = rest some
-
-  pub newest-done : (rate : ℕ → Float) (t best : ℕ) → lastBelow t nodes parent ≡ 0 → newestFrom rate t nodes parent best ≡ best
-  unfolding lastBelow newestFrom
-  newest-done rate zero best none = refl
-  newest-done rate (suc zero) best none = refl
-  newest-done rate (suc (suc k)) best none = go (isChild (suc k) (nodeAt nodes (suc k)) parent) none (newest-done rate (suc k) best)
-    where
-      go : (t : Bool) → cond t (suc k) (lastBelow (suc k) nodes parent) ≡ 0
-          → (lastBelow (suc k) nodes parent ≡ 0 → newestFrom rate (suc k) nodes parent best ≡ best)
-          → newestFrom rate (suc k) nodes parent (cond t (betterAt rate best (suc k)) best) ≡ best
-      go true none rest = absurd (omega arith)
-      go false none rest = rest none
+      go : (t : Bool) → isChild k (nodeAt nodes k) parent ≡ t → bestDown weights nodes parent k best ≡ bestDown weights nodes parent (below + 1) best
+          → bestDown weights nodes parent k (cond t (betterNode best k (nodeAt nodes k) weights) best) ≡ bestDown weights nodes parent (cond t k below + 1) best
+      go true e rest = sym (down-child weights nodes parent k best e)
+      go false e rest = rest
 
 pub last-alike : (nodes others : List Node) (t parent : ℕ) → ((k : ℕ) → k < t → nodeAt others k .parent ≡ nodeAt nodes k .parent)
     → lastBelow t others parent ≡ lastBelow t nodes parent
