@@ -161,6 +161,13 @@ abbrev pub given : (xs : List Pass) → Lists (taken xs)
 given [] = tt
 given (x ∷ xs) = (listOf x, given xs)
 
+-- the lists of the `&mut` ones as they are
+abbrev still : (xs : List Pass) → Lefts (taken xs)
+still [] = tt
+still (again p S ys e ∷ xs) = (ys, still xs)
+still (shared p S ys e ∷ xs) = still xs
+still (on p S ys e ∷ xs) = still xs
+
 abbrev pub wides : List Pass → List Val → List Val
 wides [] vs = vs
 wides (x ∷ xs) vs = wide x ∷ wides xs vs
@@ -217,7 +224,14 @@ module _ {M : Type 1} {𝓤 : URA M} (H : Heap 𝓤) (A : Atoms 𝓤) where
   laid (x ∷ xs) (i ∷ is) Γ = put 𝓤 H A (twice (number x)) (i .0) (put 𝓤 H A (suc (twice (number x))) (i .1) (laid xs is (gone x Γ)))
 
   abbrev pub left-at : (xs : List Pass) → Lefts (taken xs) → List (Item 𝓤) → List (Item 𝓤)
-  left-at xs Z Γ = laid xs (lefts xs Z) Γ
+  left-at [] Z Γ = Γ
+  left-at (again p S ys e ∷ xs) Z Γ = left-at xs (Z .1) (put 𝓤 H A (twice p) (‵ (Own S (Z .0))) Γ)
+  left-at (shared p S ys e ∷ xs) Z Γ = left-at xs Z Γ
+  left-at (on p S ys e ∷ xs) Z Γ = left-at xs Z Γ
+
+  -- that each slice stands at its number, and that the context with the lists of Z is what it is where they are put back one by one
+  abbrev pub Stand : (xs : List Pass) → List (Item 𝓤) → Type 2
+  Stand xs Γ = (Z : Lefts (taken xs)) → _≡_ {A = List (Item 𝓤 × Item 𝓤) × List (Item 𝓤)} (looks xs Γ, laid xs (lefts xs Z) Γ) (wants xs, left-at xs Z Γ)
 
   abbrev Both : List (Item 𝓤 × Item 𝓤) → SProp 𝓤
   Both [] = emp 𝓤
@@ -356,8 +370,8 @@ module _ {M : Type 1} (𝓤 : URA M) (H : Heap 𝓤) (A : Atoms 𝓤) (W : Given
 
 -- ---- the call
 module _ {M : Type 1} {𝓤 : URA M} {H : Heap 𝓤} {A : Atoms 𝓤} {K : Type 0} {W : Given 𝓤 H A} {Γ : List (Item 𝓤)} {E : Env 𝓤 H} {P : Post 𝓤 H} {f : Name} {xs : List Operand} {d : Place} {B : Body} where
-  -- that the slices stand at their numbers is `refl`
-  pub calls-slices : K → (𝓣 : Tables 𝓤 H) (ps : List Pass) → looks H A ps Γ ≡ wants H A ps → (s : Site f xs d B) (F : SlicesFn (taken ps)) → Triple 𝓤 (𝓣 .C f) (ContractSlices F 𝓤 H A) → (a : Data (F .takes)) → Known (F .takes) a → Met (F .asks) (given ps) a
+  -- that the slices stand at their numbers is `λ _. refl`
+  pub calls-slices : K → (𝓣 : Tables 𝓤 H) (ps : List Pass) → Stand H A ps Γ → (s : Site f xs d B) (F : SlicesFn (taken ps)) → Triple 𝓤 (𝓣 .C f) (ContractSlices F 𝓤 H A) → (a : Data (F .takes)) → Known (F .takes) a → Met (F .asks) (given ps) a
       → ((P′ R′ : SProp 𝓤) → Opds K W (raw P′ ∷ raw R′ ∷ blank H A ps Γ) E xs (wides ps (machine (F .takes) a)))
       → ((r : F .gives .row .Denot) (Z : Lefts (taken ps)) → Is (F .gives .row) r (F .gives .val r ∷ []) → Typed (F .gives .row .mir) (F .gives .val r ∷ []) → LeftFor ps Z → F .says (given ps) a r Z → Seq K W (left-at H A ps Z Γ) (landing s (𝓣 .C) (𝓣 .Λ) E (F .gives .val r) P))
       → Seq K W Γ (runs (𝓣 .C) (𝓣 .Λ) E B P)
@@ -365,7 +379,7 @@ module _ {M : Type 1} {𝓤 : URA M} {H : Heap 𝓤} {A : Atoms 𝓤} {K : Type 
       let n : ℕ = lives (taken ps) in
       let ks : List Datum = F .takes in
       let π : Lfts n → Lfts n = λ κs. κs in
-      let out : ent 𝓤 (⋆ 𝓤 H A Γ) (sep 𝓤 (Both H A (wants H A ps)) (⋆ 𝓤 H A (blank H A ps Γ))) = subst (λ (is : List (Item 𝓤 × Item 𝓤)). ent 𝓤 (⋆ 𝓤 H A Γ) (sep 𝓤 (Both H A is) (⋆ 𝓤 H A (blank H A ps Γ)))) there (all-out H A W ps Γ) in
+      let out : ent 𝓤 (⋆ 𝓤 H A Γ) (sep 𝓤 (Both H A (wants H A ps)) (⋆ 𝓤 H A (blank H A ps Γ))) = subst (λ (is : List (Item 𝓤 × Item 𝓤)). ent 𝓤 (⋆ 𝓤 H A Γ) (sep 𝓤 (Both H A is) (⋆ 𝓤 H A (blank H A ps Γ)))) (ap (λ v. v .0) (there (still ps))) (all-out H A W ps Γ) in
       changes t (raw (Both H A (wants H A ps)) ∷ blank H A ps Γ) (via 𝓤 _ out (push 𝓤 H A (raw (Both H A (wants H A ps))) (blank H A ps Γ))) $
       use1 W (later (some (λ (c : Choices ps). raw (Lent-all 𝓤 H A W ps 0 c) ⊛ raw (Kept-all 𝓤 H A W ps c)))) (lend-all 𝓤 H A W ps 0) $ await t tt $ pick t (λ c. split t $
       let κs : Lfts n = livesOf ps c in
@@ -387,5 +401,5 @@ module _ {M : Type 1} {𝓤 : URA M} {H : Heap 𝓤} {A : Atoms 𝓤} {K : Type 
       let Z : Lefts (taken ps) = leftFor 𝓤 H A W n ks κs b ps 0 π c ws in
       move t (1 ∷ []) $ split t $ move t (1 ∷ []) $ result s (𝓣 .C) (𝓣 .Λ) E P t (F .gives) r w (λ is ty.
       use3 W (later (provided (LeftFor ps Z) (raw (Both H A (lefts H A ps Z))))) (comes 𝓤 H A W n ks κs b ps 0 π c refl ws) $ await t (soaks s (𝓣 .C) (𝓣 .Λ) E (F .gives .val r) P) $ learn t (λ long.
-      changes t (left-at H A ps Z Γ) (via 𝓤 _ (pop 𝓤 H A (raw (Both H A (lefts H A ps Z))) (blank H A ps Γ)) (all-in H A W ps (lefts H A ps Z) Γ)) $
+      changes t (left-at H A ps Z Γ) (subst (λ (Δ : List (Item 𝓤)). ent 𝓤 (⋆ 𝓤 H A (raw (Both H A (lefts H A ps Z)) ∷ blank H A ps Γ)) (⋆ 𝓤 H A Δ)) (ap (λ v. v .1) (there Z)) (via 𝓤 _ (pop 𝓤 H A (raw (Both H A (lefts H A ps Z))) (blank H A ps Γ)) (all-in H A W ps (lefts H A ps Z) Γ))) $
       k r Z is ty long (subst (λ (X : Lists (taken ps)). F .says X a r Z) lists-are (subst (λ (c : Data ks). F .says (entered F κs x) c r Z) plain-are e))))))))) 

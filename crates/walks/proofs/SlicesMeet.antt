@@ -18,7 +18,7 @@ use ghost.Atoms.{Atoms, sem}
 use contract.Monad.{top, fact, factI}
 use contract.Lifetimes.{Lfts, Shares, toks}
 use contract.Running.{GhostRules, Running, givenOf, tables, tablesOf}
-use types.Kit.{Given, Goal, Step, Item, ‵, raw, _⊛_, prop, runs, atRet, Sq, _$_, _∵_, !, qed, by, push, pop, ⋆, move, use0, use1, split, join, fsplit, fjoin, feqI, frame, updating, now as at-once, keep, suffices, done}
+use types.Kit.{Given, Item, ‵, raw, _⊛_, prop, runs, atRet, Sq, _$_, _∵_, !, qed, by, push, pop, ⋆, move, use0, use1, split, join, fsplit, fjoin, feqI, frame, updating, now as at-once, keep, suffices, done}
 use sound.WpLaws.{WpFn-mono}
 use denote.RattleType.{RattleType, Denots, Valss, flat, mirs, owns}
 use denote.Exit.{yes}
@@ -33,7 +33,7 @@ use denote.Triple.Statement.{Triple}
 use denote.Triple.Clauses.{atExit}
 use denote.Triple.Table.{entered as entered-at}
 use denote.Triple.Walked.{Stay, Stays, stay-dropped, fitsOf, hasOf, walkOf, Goes, AllGo, goes-dropped, ends-at, walked, walk-meets}
-use Rattle.walks.proofs.Locals.{Cell, none, has, filled, cells, written-out, stored, slots, deaths, Blocks, env, Suits, starts}
+use Rattle.walks.proofs.Locals.{Cell, none, has, stored, slots, deaths, Blocks, env, Suits, starts}
 use Rattle.walks.proofs.Lend.{View, fat, Tok, Own, Shr}
 use Rattle.walks.proofs.Values.{Datum, Data, machine, Known, rowsOf, spellsOf, tellsOf, valsOf, from, flat-is, known-from, lawfulsOf}
 use Rattle.walks.proofs.Arrays.{changes}
@@ -73,11 +73,6 @@ module _ {M : Type 1} {𝓤 : URA M} where
   -- what a walk has between two statements: the slices and their tokens, and the locals. The result has no value yet, the slices come next, and then the cells cs
   abbrev pub over : {ls : List Lent} → SlicesFn ls → Views ls → Lists ls → List (Ty × ℕ) → List Cell → List (Item 𝓤)
   over {ls} F S X E cs = held ls S X ++ slots E (none ∷ kept-fats ls S cs) (‵ (deaths E) ∷ [])
-
--- the context written out so, where that is what it is but for locals that are forgotten
-module _ {M : Type 1} {𝓤 : URA M} {H : Heap 𝓤} {A : Atoms 𝓤} {K : Type 0} {W : Given 𝓤 H A} {Γ : List (Item 𝓤)} where
-  pub afresh : K → {G : Goal 𝓤 H} {ls : List Lent} (F : SlicesFn ls) (S : Views ls) (X : Lists ls) (E : List (Ty × ℕ)) (cs : List Cell) → Γ ≡ held ls S X ++ slots E (filled (none ∷ kept-fats ls S cs) (cells Γ)) (‵ (deaths E) ∷ []) → Step K W (over F S X E cs) G Γ G
-  afresh t {ls = ls} F S X E cs e = written-out t (held ls S X) E (none ∷ kept-fats ls S cs) e
 
 -- the same as one assertion
 module _ {M : Type 1} (𝓤 : URA M) (H : Heap 𝓤) (A : Atoms 𝓤) where

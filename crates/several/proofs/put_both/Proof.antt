@@ -22,8 +22,8 @@ put-both-spec 𝓤 H 𝓜 𝓖 𝓡 =
     let links = cited 𝓤 H _ 𝓜 𝓡 code.env put-link.name put-link.routine code.calls-several·put-link (put-link-thm.met 𝓤 H 𝓜 𝓖 𝓡) in
     slices-proved 𝓤 H 𝓜 𝓖 𝓡 code.env put-both.name code.function _ _ (code.unfolded 𝓤 H 𝓜 𝓡) put-both′ refl (λ _ _ _ _ ty. ty) (λ (S, (L, _)) (ys, (ls, _)) a are (same, (same-l, _)) pre bs Q return.
     reborrows ! (S .room .0) refl refl refl refl refl refl refl refl $
-    calls-slices ! 𝓣 (again 0 S ys same ∷ []) refl then (of-mut put-node′) puts (a .0, (a .1 .0, tt)) (are .0, (are .1 .0, tt)) (pre .0) (λ _ _. opd ! refl & opd ! refl & opd ! refl & no-more !) (λ _ z _ ty long said. lands-in ! refl (ty .0) $
+    calls-slices ! 𝓣 (again 0 S ys same ∷ []) (λ _. refl) then (of-mut put-node′) puts (a .0, (a .1 .0, tt)) (are .0, (are .1 .0, tt)) (pre .0) (λ _ _. opd ! refl & opd ! refl & opd ! refl & no-more !) (λ _ z _ ty long said. lands-in ! refl (ty .0) $
     reborrows ! (L .room .0) refl refl refl refl refl refl refl refl $
-    calls-slices ! 𝓣 (again 1 L ls same-l ∷ []) refl then (of-mut put-link′) links (a .0, (a .1 .1 .0, tt)) (are .0, (are .1 .1 .0, tt)) (pre .1) (λ _ _. opd ! refl & opd ! refl & opd ! refl & no-more !) (λ _ z′ _ ty′ long′ said′. lands-in ! refl (ty′ .0) $
+    calls-slices ! 𝓣 (again 1 L ls same-l ∷ []) (λ _. refl) then (of-mut put-link′) links (a .0, (a .1 .1 .0, tt)) (are .0, (are .1 .1 .0, tt)) (pre .1) (λ _ _. opd ! refl & opd ! refl & opd ! refl & no-more !) (λ _ z′ _ ty′ long′ said′. lands-in ! refl (ty′ .0) $
     sets ! (of-opd ! (unit-lit !)) refl (tt, tt) $ returns ! Q refl refl refl $
     return tt (z .0, (z′ .0, tt)) refl (long .0, (long′ .0, tt)) (said, said′))))
