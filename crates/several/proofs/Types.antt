@@ -14,8 +14,7 @@ use Rattle.several.proofs.Node.Laws as T′
 use Rattle.several.proofs.Stop as Z
 use Rattle.several.proofs.Stop.Laws as Z′
 use Rattle.walks.proofs.Values.{Datum, usize′, u8′, u32′, f32′, unit′, struct′, enum′}
-use Rattle.walks.proofs.Functions.{nothing-asked, that, MutFn, ShrFn, BothFn, PlainFn}
-use Rattle.walks.proofs.Slices.{shr, mut, SlicesFn}
+use Rattle.walks.proofs.Functions.{nothing-asked, that, shr, mut, SlicesFn, MutFn, ShrFn, BothFn, PlainFn}
 
 abbrev pub node′ : Datum
 node′ = struct′ T.the-type T′.the-laws T′.the-copy T′.the-plain

@@ -224,13 +224,13 @@ module _ {M : Type 1} (𝓤 : URA M) (H : Heap 𝓤) (A : Atoms 𝓤) where
       via 𝓤 _ (via 𝓤 _ (pop 𝓤 H A (‵ c) (slots E (others cs) Γ)) (monoR 𝓤 (sem 𝓤 H A c) (via 𝓤 _ (back⊢ E (others cs) Γ) (pop 𝓤 H A (‵ l) Γ))))
       (via 𝓤 _ (assoc′ 𝓤 (sem 𝓤 H A c) (sem 𝓤 H A l) (⋆ 𝓤 H A Γ)) (push 𝓤 H A (‵ (fsep c l)) Γ))
 
-  pack⊢ : (Δ Γ : List (Item 𝓤)) → ent 𝓤 (⋆ 𝓤 H A (Δ ++ Γ)) (⋆ 𝓤 H A (raw (⋆ 𝓤 H A Δ) ∷ Γ))
+  pub pack⊢ : (Δ Γ : List (Item 𝓤)) → ent 𝓤 (⋆ 𝓤 H A (Δ ++ Γ)) (⋆ 𝓤 H A (raw (⋆ 𝓤 H A Δ) ∷ Γ))
   pack⊢ [] Γ = via 𝓤 _ (emp∗ 𝓤 (⋆ 𝓤 H A Γ)) (push 𝓤 H A (raw (⋆ 𝓤 H A [])) Γ)
   pack⊢ (i ∷ Δ) Γ =
       via 𝓤 _ (via 𝓤 _ (pop 𝓤 H A i (Δ ++ Γ)) (monoR 𝓤 (mean 𝓤 H A i) (via 𝓤 _ (pack⊢ Δ Γ) (pop 𝓤 H A (raw (⋆ 𝓤 H A Δ)) Γ))))
       (via 𝓤 _ (assoc′ 𝓤 (mean 𝓤 H A i) (⋆ 𝓤 H A Δ) (⋆ 𝓤 H A Γ)) (via 𝓤 _ (monoL 𝓤 (⋆ 𝓤 H A Γ) (push 𝓤 H A i Δ)) (push 𝓤 H A (raw (⋆ 𝓤 H A (i ∷ Δ))) Γ)))
 
-  unpack⊢ : (Δ Γ : List (Item 𝓤)) → ent 𝓤 (⋆ 𝓤 H A (raw (⋆ 𝓤 H A Δ) ∷ Γ)) (⋆ 𝓤 H A (Δ ++ Γ))
+  pub unpack⊢ : (Δ Γ : List (Item 𝓤)) → ent 𝓤 (⋆ 𝓤 H A (raw (⋆ 𝓤 H A Δ) ∷ Γ)) (⋆ 𝓤 H A (Δ ++ Γ))
   unpack⊢ Δ Γ = via 𝓤 _ (pop 𝓤 H A (raw (⋆ 𝓤 H A Δ)) Γ) (++⊢ 𝓤 H A Δ Γ)
 
 module _ {M : Type 1} {𝓤 : URA M} {H : Heap 𝓤} {A : Atoms 𝓤} {K : Type 0} {W : Given 𝓤 H A} where

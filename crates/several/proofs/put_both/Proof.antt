@@ -1,10 +1,7 @@
 -- `several::put_both` meets its contract: a walk of its MIR, by hand, over two `&mut` slices.
 -- Assumes nothing.
 use contract.Running.{tablesOf}
-use Rattle.walks.proofs.Slices.{of-mut}
-use Rattle.walks.proofs.SlicesMeet.{slices-proved}
-use Rattle.walks.proofs.SlicesCall.{again, calls-slices}
-use Rattle.walks.proofs.Walking.{refl, [], _∷_, tables, _$_, !, unit-lit, of-opd, no-more, cited, opd, _&_, sets, lands-in, returns, reborrows, then}
+use Rattle.walks.proofs.Walking.{refl, [], _∷_, tables, _$_, !, unit-lit, of-opd, no-more, cited, opd, _&_, sets, lands-in, returns, reborrows, then, of-mut, slices-proved, again, calls-slices}
 use Rattle.several.proofs.Types.{put-node′, put-link′, put-both′}
 use Rattle.several.proofs.put_node.Symbol as put-node
 use Rattle.several.proofs.put_node.Met as put-node-thm

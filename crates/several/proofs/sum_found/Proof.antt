@@ -10,10 +10,7 @@ use denote.Laws.{Is}
 use denote.Builtin.{f32}
 use Rattle.several.specs.declared.Node.{Node}
 use Rattle.several.specs.Several.{nodeAt, within, sumTo}
-use Rattle.walks.proofs.Slices.{of-shr}
-use Rattle.walks.proofs.SlicesMeet.{over, slices-proved}
-use Rattle.walks.proofs.SlicesCall.{on, calls-slices}
-use Rattle.walks.proofs.Walking.{_≡_, refl, sym, ap, _∙_, subst, Bool, true, false, ℕ, _+_, _-_, _<_, _≤_, _^_, arith, List, [], _∷_, ltb, ltb-true, ltb-false, lit<, givenOf, tables, _$_, !, lit, of-opd, bin, no-more, cited, usize′, f32′, has, env, opd, _&_, sets, sets-last, lands-in, keeps, returns, whiles, then, calls-plain}
+use Rattle.walks.proofs.Walking.{_≡_, refl, sym, ap, _∙_, subst, Bool, true, false, ℕ, _+_, _-_, _<_, _≤_, _^_, arith, List, [], _∷_, ltb, ltb-true, ltb-false, lit<, givenOf, tables, _$_, !, lit, of-opd, bin, no-more, cited, usize′, f32′, has, env, opd, _&_, sets, sets-last, lands-in, keeps, returns, whiles, then, calls-plain, of-shr, over, slices-proved, on, calls-slices}
 use Rattle.several.proofs.Types.{node-at′, link-at′, in-range′, added′, sum-found′}
 use Rattle.several.proofs.node_at.Symbol as node-at
 use Rattle.several.proofs.node_at.Met as node-at-thm
