@@ -115,7 +115,13 @@ pub fn put_both(nodes: &mut [Node], links: &mut [u32], k: usize, n: Node, v: u32
 }
 
 // Rounds until a draw is 0.
-pub fn iterate(nodes: &mut [Node], links: &mut [u32], logs: &[f32], draws: &[u8], count: usize) -> Stop
+pub fn iterate(
+    nodes: &mut [Node],
+    links: &mut [u32],
+    logs: &[f32],
+    draws: &[u8],
+    count: usize,
+) -> Stop
     requires { ⌜ Fits count (now nodes) (now links) (now logs) (now draws) ⌝ }
     ensures { λ r. ⌜ Iterated count (now (nodes .entry)) (now (links .entry)) (now (logs .entry)) (now (draws .entry)) r (now (nodes .exit)) (now (links .exit)) ⌝ }
 {
@@ -156,7 +162,15 @@ pub fn put_mark(nodes: &[Node], out: &mut [u8], k: usize)
     put_byte(out, k, n.mark);
 }
 
-pub fn search(nodes: &mut [Node], logs: &[f32], draws: &[u8], out: &mut [u8], count: usize, times: usize, k: usize) -> usize
+pub fn search(
+    nodes: &mut [Node],
+    logs: &[f32],
+    draws: &[u8],
+    out: &mut [u8],
+    count: usize,
+    times: usize,
+    k: usize,
+) -> usize
     requires { ⌜ Searches (now nodes) (now logs) (now draws) (now out) count k ⌝ }
     ensures { λ r. ⌜ Searched count (now (nodes .entry)) (now (logs .entry)) (now (draws .entry)) (now (out .entry)) times k r (now (nodes .exit)) (now (out .exit)) ⌝ }
 {

@@ -12,7 +12,7 @@ use denote.Plain.{UInt}
 use denote.Slice.{Room}
 use Rattle.several.specs.declared.Node.{Node}
 use Rattle.several.specs.Several.{Pair, pair, ranOf, grownOf, linksMost, noLinks, Fits}
-use Rattle.walks.proofs.Walking.{_≡_, refl, sym, ap, _∙_, subst, ℕ, _+_, _-_, _<_, _≤_, _^_, arith, List, [], _∷_, ltb, ltb-true, ltb-false, lit<, givenOf, tables, _$_, !, lit, unit-lit, of-opd, bin, no-more, cited, usize′, u32′, has, env, opd, _&_, sets, sets-last, lands-in, keeps, returns, whiles, reborrows, then, array-val, lent-view, fills, borrows, lends-array, takes-array, over, slices-proved, again, on, calls-slices}
+use Rattle.walks.proofs.Walking.{_≡_, refl, sym, ap, _∙_, ℕ, _+_, _-_, _<_, _≤_, _^_, arith, List, [], _∷_, ltb, ltb-true, ltb-false, lit<, tables, _$_, !, lit, unit-lit, of-opd, bin, no-more, cited, usize′, u32′, has, env, opd, _&_, sets, sets-last, lands-in, keeps, returns, whiles, reborrows, then, array-val, lent-view, fills, borrows, lends-array, takes-array, over, slices-proved, again, on, calls-slices}
 use Rattle.several.proofs.Types.{iterate′, grow′}
 use Rattle.several.proofs.iterate.Symbol as iterate
 use Rattle.several.proofs.iterate.Met as iterate-thm

@@ -9,14 +9,13 @@ use contract.Running.{tablesOf}
 use borrow.Author.Tests.{lt-ltb, le-ltb}
 use denote.Laws.{Is}
 use Rattle.several.specs.declared.Node.{Node}
-use Rattle.several.specs.declared.Stop.{Stop}
 use Rattle.several.specs.declared.Stop.the-variants.{At, End}
-use Rattle.several.specs.Several.{noLog, sumTo, madeOf, Pair, pair, roundsOf, zeroFrom, stopOf, ranOf, Fits, Iterated}
+use Rattle.several.specs.Several.{noLog, sumTo, madeOf, Pair, pair, roundsOf, zeroFrom, stopOf}
 use Rattle.several.proofs.Stop as answer
 use Rattle.several.proofs.Stop.Laws as answer′
 use Rattle.walks.proofs.Values.{enum-is}
-use Rattle.walks.proofs.Walking.{_≡_, refl, sym, ap, _∙_, subst, true, false, ℕ, _+_, _-_, _<_, _≤_, _^_, arith, List, [], _∷_, ltb, eqb, ltb-true, ltb-false, lit<, givenOf, tables, _$_, !, lit, of-opd, bin, agg, no-more, cited, usize′, u8′, f32′, has, env, opd, _&_, sets, sets-last, lands-in, keeps, returns, guards, whiles, reborrows, then, calls-plain, of-shr, over, slices-proved, again, shared, on, calls-slices}
-use Rattle.several.proofs.Types.{node′, stop′, log-at′, draw-at′, made′, sum-found′, put-both′, iterate′}
+use Rattle.walks.proofs.Walking.{_≡_, refl, sym, ap, _∙_, subst, true, false, ℕ, _+_, _-_, _<_, _≤_, _^_, arith, List, [], _∷_, ltb, eqb, ltb-true, ltb-false, lit<, givenOf, tables, _$_, !, lit, of-opd, bin, agg, no-more, cited, usize′, has, env, opd, _&_, sets, sets-last, lands-in, keeps, returns, guards, whiles, reborrows, then, calls-plain, of-shr, over, slices-proved, again, shared, on, calls-slices}
+use Rattle.several.proofs.Types.{stop′, log-at′, draw-at′, made′, sum-found′, put-both′, iterate′}
 use Rattle.several.proofs.draw_at.Symbol as draw-at
 use Rattle.several.proofs.draw_at.Met as draw-at-thm
 use Rattle.several.proofs.log_at.Symbol as log-at

@@ -2,8 +2,6 @@ use native.Mathlib.Omega.{arith}
 use borrow.Author.Needs.{needs}
 use Rattle.several.proofs.link_at.Statement.{statement}
 use Rattle.several.proofs.link_at.Tie as tie
-use Rattle.several.proofs.link_at.Reads as reads
-use Rattle.several.proofs.link_at.Lts as lts
 
 -- src/lib.rt:37:5
 mul-result : tie.Need-mul-result

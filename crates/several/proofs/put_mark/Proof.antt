@@ -5,10 +5,9 @@ use denote.Struct.Laws as LL
 use denote.Laws.{Is}
 use contract.Running.{tablesOf}
 use Rattle.several.specs.declared.Node.{Node}
-use Rattle.several.specs.Several.{nodeAt}
 use Rattle.several.proofs.Node as T
 use Rattle.several.proofs.Node.Laws as T′
-use Rattle.walks.proofs.Walking.{_≡_, refl, sym, ap, _∙_, ℕ, _<_, _^_, List, [], _∷_, tables, _$_, !, unit-lit, of-opd, no-more, cited, opd, part, _&_, sets, lands-in, returns, reborrows, then, both-proved, of-mut, of-shr, again, on, calls-slices}
+use Rattle.walks.proofs.Walking.{refl, ap, _∙_, ℕ, _<_, _^_, [], _∷_, tables, _$_, !, unit-lit, of-opd, no-more, cited, opd, part, _&_, sets, lands-in, returns, reborrows, then, both-proved, of-mut, of-shr, again, on, calls-slices}
 use Rattle.several.proofs.Types.{node′, node-at′, put-byte′, put-mark′}
 use Rattle.several.proofs.node_at.Symbol as node-at
 use Rattle.several.proofs.node_at.Met as node-at-thm

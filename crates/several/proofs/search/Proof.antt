@@ -2,7 +2,7 @@
 -- Assumes nothing.
 use lib.ListN.{length}
 use contract.Running.{tablesOf}
-use Rattle.walks.proofs.Walking.{refl, sym, _∙_, ℕ, _<_, arith, [], _∷_, tables, _$_, !, of-opd, no-more, cited, opd, part, _&_, sets, lands-in, returns, reborrows, then, of-both, slices-proved, again, shared, on, calls-slices}
+use Rattle.walks.proofs.Walking.{refl, sym, ℕ, _<_, arith, [], _∷_, tables, _$_, !, of-opd, no-more, cited, opd, part, _&_, sets, lands-in, returns, reborrows, then, of-both, slices-proved, again, shared, on, calls-slices}
 use Rattle.several.proofs.Types.{grow′, put-mark′, search′}
 use Rattle.several.proofs.grow.Symbol as grow
 use Rattle.several.proofs.grow.Met as grow-thm
