@@ -12,7 +12,7 @@ use denote.Plain.{UInt}
 use denote.Slice.{Room}
 use Rattle.several.specs.declared.Node.{Node}
 use Rattle.several.specs.Several.{Pair, pair, ranOf, grownOf, linksMost, noLinks, Fits}
-use Rattle.walks.proofs.Walking.{_≡_, refl, sym, ap, _∙_, ℕ, _+_, _-_, _<_, _≤_, _^_, arith, List, [], _∷_, ltb, ltb-true, ltb-false, lit<, tables, _$_, !, lit, unit-lit, of-opd, bin, no-more, cited, usize′, u32′, has, env, opd, _&_, sets, sets-last, lands-in, keeps, returns, whiles, reborrows, then, array-val, lent-view, fills, borrows, lends-array, takes-array, over, slices-proved, again, on, calls-slices}
+use Rattle.walks.proofs.Walking.{_≡_, refl, sym, ap, _∙_, ℕ, _+_, _-_, _<_, _≤_, _^_, arith, List, [], _∷_, ltb, ltb-true, ltb-false, lit<, tables, _$_, !, lit, unit-lit, of-opd, bin, no-more, cited, usize′, u32′, has, env, opd, _&_, sets, sets-last, lands-in, keeps, returns, whiles, reborrows, then, array-val, lent-view, fills, borrows, lends-array, takes-array, over, slices-proved, lend-mut, pass-shr, calls-slices}
 use Rattle.several.proofs.Types.{iterate′, grow′}
 use Rattle.several.proofs.iterate.Symbol as iterate
 use Rattle.several.proofs.iterate.Met as iterate-thm
@@ -69,7 +69,7 @@ grow-spec 𝓤 H 𝓜 𝓖 𝓡 =
     reborrows ! (S .room .0) refl refl refl refl refl refl refl refl $
     borrows ! (lit< tt) refl refl refl refl refl refl $
     lends-array ! tt u32′ tt linksMost roomy (x .links) (x .links-are) 12 refl (λ ν δ.
-    calls-slices ! 𝓣 (again 1 S (x .nodes) nodes-long ∷ again 0 (lent-view u32′ linksMost roomy _ ν δ) (x .links) (x .links-long) ∷ on 2 G gs same-g ∷ on 3 D ds same-d ∷ []) (λ _. refl) then iterate′ runs (n, tt) (are .0, tt) fits (λ _ _. opd ! refl & opd ! refl & opd ! refl & opd ! refl & opd ! refl & no-more !) (λ _ z _ ty long said.
+    calls-slices ! 𝓣 (lend-mut 1 S (x .nodes) nodes-long ∷ lend-mut 0 (lent-view u32′ linksMost roomy _ ν δ) (x .links) (x .links-long) ∷ pass-shr 2 G gs same-g ∷ pass-shr 3 D ds same-d ∷ []) (λ _. refl) then iterate′ runs (n, tt) (are .0, tt) fits (λ _ _. opd ! refl & opd ! refl & opd ! refl & opd ! refl & opd ! refl & no-more !) (λ _ z _ ty long said.
     takes-array ! tt u32′ linksMost roomy (z .1 .0) 12 refl (λ links-are. lands-in ! refl (ty .0) $
     sets-last ! (bin ! (opd ! refl) (lit ! tt) (record { fits = k-next })) refl (tt, record { fits = k-next }) $
     keeps ! 8 refl $

@@ -14,7 +14,7 @@ use Rattle.several.specs.Several.{noLog, sumTo, madeOf, Pair, pair, roun
 use Rattle.several.proofs.Stop as answer
 use Rattle.several.proofs.Stop.Laws as answer′
 use Rattle.walks.proofs.Values.{enum-is}
-use Rattle.walks.proofs.Walking.{_≡_, refl, sym, ap, _∙_, subst, true, false, ℕ, _+_, _-_, _<_, _≤_, _^_, arith, List, [], _∷_, ltb, eqb, ltb-true, ltb-false, lit<, givenOf, tables, _$_, !, lit, of-opd, bin, agg, no-more, cited, usize′, has, env, opd, _&_, sets, sets-last, lands-in, keeps, returns, guards, whiles, reborrows, then, calls-plain, of-shr, over, slices-proved, again, shared, on, calls-slices}
+use Rattle.walks.proofs.Walking.{_≡_, refl, sym, ap, _∙_, subst, true, false, ℕ, _+_, _-_, _<_, _≤_, _^_, arith, List, [], _∷_, ltb, eqb, ltb-true, ltb-false, lit<, givenOf, tables, _$_, !, lit, of-opd, bin, agg, no-more, cited, usize′, has, env, opd, _&_, sets, sets-last, lands-in, keeps, returns, guards, whiles, reborrows, then, calls-plain, of-shr, over, slices-proved, lend-mut, lend-shr, pass-shr, calls-slices}
 use Rattle.several.proofs.Types.{stop′, log-at′, draw-at′, made′, sum-found′, put-both′, iterate′}
 use Rattle.several.proofs.draw_at.Symbol as draw-at
 use Rattle.several.proofs.draw_at.Met as draw-at-thm
@@ -99,7 +99,7 @@ iterate-spec 𝓤 H 𝓜 𝓖 𝓡 =
     let links-long : length (x .links) ≡ L .count = x .links-long ∙ same-l in
     let nodes-room : n ≤ length (x .nodes) = omega (arith, pre .nodes-long, x .nodes-long) in
     let links-room : n ≤ length (x .links) = omega (arith, pre .links-long, x .links-long) in
-    calls-slices ! 𝓣 (on 3 D ds same-d ∷ []) (λ _. refl) then (of-shr draw-at′) draws (x .i, tt) ((refl, i-fits), tt) (omega (arith, less, pre .draws-long)) (λ _ _. opd ! refl & opd ! refl & no-more !) (λ d _ d-is d-ty _ d-said. lands-in ! refl (d-ty .0) $
+    calls-slices ! 𝓣 (pass-shr 3 D ds same-d ∷ []) (λ _. refl) then (of-shr draw-at′) draws (x .i, tt) ((refl, i-fits), tt) (omega (arith, less, pre .draws-long)) (λ _ _. opd ! refl & opd ! refl & no-more !) (λ d _ d-is d-ty _ d-said. lands-in ! refl (d-ty .0) $
     sets ! (bin ! (opd ! refl) (lit ! tt) tt) refl (tt, tt) $
     guards ! (opd ! refl)
     (λ none Post′ out′ _.
@@ -108,14 +108,14 @@ iterate-spec 𝓤 H 𝓜 𝓖 𝓡 =
     sets ! (agg ! (lit ! tt & opd ! refl & no-more !)) refl (typed (At (x .i)) _ at-is .0) $ returns ! Q (out′ ∙ out) refl refl $
     return (At (x .i)) (x .nodes, (x .links, tt)) at-is (nodes-long, (links-long, tt)) (record { answer = stop-at n (x .i) ds found less; left = x .made ∙ ap (λ (k : ℕ). roundsOf gs ds n k (pair ys ls)) (sym found) }))
     (λ some.
-    calls-slices ! 𝓣 (on 2 G gs same-g ∷ []) (λ _. refl) then (of-shr log-at′) logs (x .i, tt) ((refl, i-fits), tt) (omega (arith, less, pre .logs-long)) (λ _ _. opd ! refl & opd ! refl & no-more !) (λ g _ g-is g-ty _ g-said. lands-in ! refl (g-ty .0) $
+    calls-slices ! 𝓣 (pass-shr 2 G gs same-g ∷ []) (λ _. refl) then (of-shr log-at′) logs (x .i, tt) ((refl, i-fits), tt) (omega (arith, less, pre .logs-long)) (λ _ _. opd ! refl & opd ! refl & no-more !) (λ g _ g-is g-ty _ g-said. lands-in ! refl (g-ty .0) $
     reborrows ! (S .room .0) refl refl refl refl refl refl refl refl $
     reborrows ! (L .room .0) refl refl refl refl refl refl refl refl $
-    calls-slices ! 𝓣 (shared 0 S (x .nodes) nodes-long ∷ shared 1 L (x .links) links-long ∷ []) (λ _. refl) then sum-found′ sums (g, (n, tt)) (g-is, (are .0, tt)) (nodes-room, links-room) (λ _ _. opd ! refl & opd ! refl & opd ! refl & opd ! refl & no-more !) (λ s _ s-is s-ty _ s-said. lands-in ! refl (s-ty .0) $
+    calls-slices ! 𝓣 (lend-shr 0 S (x .nodes) nodes-long ∷ lend-shr 1 L (x .links) links-long ∷ []) (λ _. refl) then sum-found′ sums (g, (n, tt)) (g-is, (are .0, tt)) (nodes-room, links-room) (λ _ _. opd ! refl & opd ! refl & opd ! refl & opd ! refl & no-more !) (λ s _ s-is s-ty _ s-said. lands-in ! refl (s-ty .0) $
     calls-plain ! 𝓣 then made′ makes (d, (s, (g, tt))) (d-is, (s-is, (g-is, tt))) tt (λ _. opd ! refl & opd ! refl & opd ! refl & no-more !) (λ m m-is m-ty m-said. lands-in ! refl (m-ty .0) $
     reborrows ! (S .room .0) refl refl refl refl refl refl refl refl $
     reborrows ! (L .room .0) refl refl refl refl refl refl refl refl $
-    calls-slices ! 𝓣 (again 0 S (x .nodes) nodes-long ∷ again 1 L (x .links) links-long ∷ []) (λ _. refl) then put-both′ puts (x .i, (m, (7, tt))) ((refl, i-fits), (m-is, ((refl, lit< tt), tt))) (omega (arith, less, nodes-room), omega (arith, less, links-room)) (λ _ _. opd ! refl & opd ! refl & opd ! refl & opd ! refl & lit ! tt & no-more !) (λ _ z _ ty long said. lands-in ! refl (ty .0) $
+    calls-slices ! 𝓣 (lend-mut 0 S (x .nodes) nodes-long ∷ lend-mut 1 L (x .links) links-long ∷ []) (λ _. refl) then put-both′ puts (x .i, (m, (7, tt))) ((refl, i-fits), (m-is, ((refl, lit< tt), tt))) (omega (arith, less, nodes-room), omega (arith, less, links-room)) (λ _ _. opd ! refl & opd ! refl & opd ! refl & opd ! refl & lit ! tt & no-more !) (λ _ z _ ty long said. lands-in ! refl (ty .0) $
     sets-last ! (bin ! (opd ! refl) (lit ! tt) (record { fits = i-next })) refl (tt, record { fits = i-next }) $
     keeps ! 7 refl $
     next (record {

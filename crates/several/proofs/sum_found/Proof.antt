@@ -10,7 +10,7 @@ use denote.Laws.{Is}
 use denote.Builtin.{f32}
 use Rattle.several.specs.declared.Node.{Node}
 use Rattle.several.specs.Several.{nodeAt, within, sumTo}
-use Rattle.walks.proofs.Walking.{_≡_, refl, sym, ap, _∙_, subst, Bool, true, false, ℕ, _+_, _-_, _<_, _≤_, _^_, arith, List, [], _∷_, ltb, ltb-true, ltb-false, lit<, givenOf, tables, _$_, !, lit, of-opd, bin, no-more, cited, usize′, f32′, has, env, opd, _&_, sets, sets-last, lands-in, keeps, returns, whiles, then, calls-plain, of-shr, over, slices-proved, on, calls-slices}
+use Rattle.walks.proofs.Walking.{_≡_, refl, sym, ap, _∙_, subst, Bool, true, false, ℕ, _+_, _-_, _<_, _≤_, _^_, arith, List, [], _∷_, ltb, ltb-true, ltb-false, lit<, givenOf, tables, _$_, !, lit, of-opd, bin, no-more, cited, usize′, f32′, has, env, opd, _&_, sets, sets-last, lands-in, keeps, returns, whiles, then, calls-plain, of-shr, over, slices-proved, pass-shr, calls-slices}
 use Rattle.several.proofs.Types.{node-at′, link-at′, in-range′, added′, sum-found′}
 use Rattle.several.proofs.node_at.Symbol as node-at
 use Rattle.several.proofs.node_at.Met as node-at-thm
@@ -71,10 +71,10 @@ sum-found-spec 𝓤 H 𝓜 𝓖 𝓡 =
     let less : x .i < n = ltb-true (x .i) n goes-on in
     let next : x .i + 1 < 2 ^ 64 = omega (arith, less, are .1 .0 .1) in
     let i-fits : x .i < 2 ^ 64 = omega (arith, next) in
-    calls-slices ! 𝓣 (on 1 L ls same-l ∷ []) (λ _. refl) then (of-shr link-at′) follows (x .i, tt) ((refl, i-fits), tt) (omega (arith, less, pre .1)) (λ _ _. opd ! refl & opd ! refl & no-more !) (λ l _ l-is l-ty _ l-said. lands-in ! refl (l-ty .0) $
+    calls-slices ! 𝓣 (pass-shr 1 L ls same-l ∷ []) (λ _. refl) then (of-shr link-at′) follows (x .i, tt) ((refl, i-fits), tt) (omega (arith, less, pre .1)) (λ _ _. opd ! refl & opd ! refl & no-more !) (λ l _ l-is l-ty _ l-said. lands-in ! refl (l-ty .0) $
     calls-plain ! 𝓣 then in-range′ bounds (l, (n, tt)) (l-is, (are .1 .0, tt)) tt (λ _. opd ! refl & opd ! refl & no-more !) (λ k k-is k-ty k-said. lands-in ! refl (k-ty .0) $
     let there : k < length ys = subst (λ (j : ℕ). j < length ys) (sym k-said) (omega (arith, in-bound l n (omega (arith, less)), pre .0)) in
-    calls-slices ! 𝓣 (on 0 S ys same ∷ []) (λ _. refl) then (of-shr node-at′) reads (k, tt) (k-is, tt) there (λ _ _. opd ! refl & opd ! refl & no-more !) (λ m _ m-is m-ty _ m-said. lands-in ! refl (m-ty .0) $
+    calls-slices ! 𝓣 (pass-shr 0 S ys same ∷ []) (λ _. refl) then (of-shr node-at′) reads (k, tt) (k-is, tt) there (λ _ _. opd ! refl & opd ! refl & no-more !) (λ m _ m-is m-ty _ m-said. lands-in ! refl (m-ty .0) $
     calls-plain ! 𝓣 then added′ adds (x .sum, (m, tt)) (x .sum-is, (m-is, tt)) tt (λ _. opd ! refl & opd ! refl & no-more !) (λ r r-is r-ty r-said. lands-in ! refl (r-ty .0) $
     sets-last ! (bin ! (opd ! refl) (lit ! tt) (record { fits = next })) refl (tt, record { fits = next }) $
     keeps ! 7 refl $
