@@ -99,3 +99,27 @@ search′ = record {
   asks = that (λ x a. Searches (x .0) (x .1 .0) (x .1 .1 .0) (x .1 .1 .1 .0) (a .0) (a .1 .1 .0));
   says = λ x a r z. Searched (a .0) (x .0) (x .1 .0) (x .1 .1 .0) (x .1 .1 .1 .0) (a .1 .0) (a .1 .1 .0) r (z .0) (z .1 .0);
 }
+
+abbrev pub note-draw′ : SlicesFn (mut (UInt w32) ∷ shr (UInt w8) ∷ [])
+note-draw′ = record {
+  takes = usize′ ∷ [];
+  gives = unit′;
+  asks = that (λ x a. (a .0 < length (x .0)) × (a .0 < length (x .1 .0)));
+  says = λ x a _ z. z .0 ≡ set (x .0) (a .0) (getD (x .1 .0) (a .0) 0);
+}
+
+abbrev pub store′ : SlicesFn (mut T.the-row ∷ mut (UInt w32) ∷ shr (UInt w8) ∷ [])
+store′ = record {
+  takes = usize′ ∷ node′ ∷ [];
+  gives = unit′;
+  asks = that (λ x a. (a .0 < length (x .0)) × (a .0 < length (x .1 .0)) × (a .0 < length (x .1 .1 .0)));
+  says = λ x a _ z. (z .0 ≡ set (x .0) (a .0) (a .1 .0)) × (z .1 .0 ≡ set (x .1 .0) (a .0) (getD (x .1 .1 .0) (a .0) 0));
+}
+
+abbrev pub select′ : SlicesFn (shr T.the-row ∷ shr (UInt w32) ∷ shr f32 ∷ [])
+select′ = record {
+  takes = usize′ ∷ usize′ ∷ [];
+  gives = f32′;
+  asks = that (λ x a. (a .0 < length (x .1 .1 .0)) × (a .1 .0 ≤ length (x .0)) × (a .1 .0 ≤ length (x .1 .0)));
+  says = λ x a r _. r ≡ sumTo (a .1 .0) (x .0) (x .1 .0) (getD (x .1 .1 .0) (a .0) noLog) (a .1 .0);
+}

@@ -178,3 +178,27 @@ pub fn search(
     put_mark(nodes, out, k);
     out.len()
 }
+
+// A covered function of two slices of numbers.
+fn note_draw(links: &mut [u32], draws: &[u8], k: usize)
+    requires { ⌜ (k < length (now links)) × (k < length (now draws)) ⌝ }
+    ensures { λ _. ⌜ now (links .exit) ≡ set (now (links .entry)) k (getD (now (draws .entry)) k 0) ⌝ }
+{
+    links[k] = draws[k] as u32;
+}
+
+pub fn store(nodes: &mut [Node], links: &mut [u32], draws: &[u8], k: usize, n: Node)
+    requires { ⌜ (k < length (now nodes)) × (k < length (now links)) × (k < length (now draws)) ⌝ }
+    ensures { λ _. ⌜ (now (nodes .exit) ≡ set (now (nodes .entry)) k n) × (now (links .exit) ≡ set (now (links .entry)) k (getD (now (draws .entry)) k 0)) ⌝ }
+{
+    note_draw(links, draws, k);
+    put_node(nodes, k, n);
+}
+
+pub fn select(nodes: &[Node], links: &[u32], logs: &[f32], k: usize, count: usize) -> f32
+    requires { ⌜ (k < length (now logs)) × (count ≤ length (now nodes)) × (count ≤ length (now links)) ⌝ }
+    ensures { λ r. ⌜ r ≡ sumTo count (now (nodes .entry)) (now (links .entry)) (getD (now (logs .entry)) k noLog) count ⌝ }
+{
+    let g = log_at(logs, k);
+    sum_found(nodes, links, g, count)
+}

@@ -1,21 +1,19 @@
+-- `several::link_at` meets its contract.
+-- Assumes nothing.
 use native.Mathlib.Omega.{arith}
 use borrow.Author.Needs.{needs}
 use Rattle.several.proofs.link_at.Statement.{statement}
 use Rattle.several.proofs.link_at.Tie as tie
 
--- src/lib.rt:37:5
 mul-result : tie.Need-mul-result
 mul-result c = search needs
 
--- src/lib.rt:37:5
 shared-slice-read-result : tie.Need-shared-slice-read-result
 shared-slice-read-result c = search needs
 
--- src/lib.rt:37:5
 cast-result : tie.Need-cast-result
 cast-result c = omega (arith, c .shared-slice-known .given (c .before .args .k))
 
--- src/lib.rt:33:1
 returns : tie.Need-returns
 returns c = search needs
 
