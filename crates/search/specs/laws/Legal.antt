@@ -89,6 +89,8 @@ module _ (c : CraftContext) (nodes : List Node) (count : ℕ) (growing : Growing
 
       pub grown-playable : Playable c (stateAt c nodes parent) action (attributesOf action) × RowBounds action (attributesOf action)
       grown-playable =
-          let up : parent < k = tree-falls (growing .tree) k some inside in
-          (legal-playable attributesOf rows-bounded c (stateAt c nodes parent) (modeAt parent) action (grown-timely parent (omega arith) .inside) action-known
-          (growing .legal k some inside), rows-bounded action action-known)
+          let up : parent < k = tree-falls (growing .tree) k some inside in (
+            legal-playable attributesOf rows-bounded c (stateAt c nodes parent) (modeAt parent) action (grown-timely parent (omega arith) .inside) action-known
+                (growing .legal k some inside),
+            rows-bounded action action-known,
+          )

@@ -1,24 +1,21 @@
 -- The index of children: it holds of a planted tree, is kept where a record is stored and where floats change, and leads from child to child, newest first.
 -- Assumes nothing.
 use mathlib.Core.Path.{_≡_, refl, sym, ap, _∙_}
-use mathlib.Core.Bool.{Bool, true, false, not, cond, _&&_}
+use mathlib.Core.Bool.{Bool, true, false, cond}
 use mathlib.Core.List.{List}
 use mathlib.Core.Logic.{⊎-elim}
 use Prim.Native.Nat.{ℕ, zero, suc, _+_, _*_, _≤_, _<_}
-use native.Mathlib.Nat.{le-refl}
 use native.Mathlib.Omega.{arith}
-use lib.Dec.{eqb, ltb, lit≤}
+use lib.Dec.{eqb, ltb}
 use lib.Ieee.{Float}
 use lib.ListN.{length, set, replicate, length-set, length-replicate, getD-replicate}
 use lib.Seq.{getD-set-same, getD-set-other}
-use borrow.Author.Tests.{lt-ltb, le-ltb, ltb-true, ltb-false, eq-eqb, ne-eqb, eqb-true, eqb-false}
-use Rattle.laws.specs.laws.Tests.{true-false, either}
+use borrow.Author.Tests.{le-ltb, ltb-true, ltb-false, ne-eqb, eqb-true, eqb-false}
 use Rattle.tree.specs.declared.node.Node.{Node}
 use Rattle.tree.specs.Tree.{nodeAt, isChild}
 use Rattle.tree.specs.laws.Tree.{last-or-below}
 use Rattle.search.specs.inner.Links.{linked, lastAt, olderAt, lastBelow, topOf, Links, linkOf}
 use Rattle.search.specs.Iterate.{belowOf}
-use Rattle.search.specs.laws.States.{Alike}
 use Rattle.search.specs.laws.Below.{below-new, below-alike}
 use Rattle.search.specs.laws.Newest.{betterAt, newestFrom}
 

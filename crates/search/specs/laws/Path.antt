@@ -1,12 +1,12 @@
 -- THE theorem of the path: from the records of a search, a plain replay executes the actions of `solution` whole, and comes to the state at the last record.
 -- Assumes nothing.
-use mathlib.Core.Path.{_≡_, refl, sym, ap, subst, _∙_}
+use mathlib.Core.Path.{_≡_, refl, sym, ap, _∙_}
 use mathlib.Core.Bool.{true}
 use mathlib.Core.List.{List, [], _∷_}
 use Prim.Native.Nat.{ℕ, zero, suc, _≤_, _<_}
 use native.Mathlib.Nat.{le-refl, le-antisymm}
 use native.Mathlib.Omega.{arith}
-use lib.ListN.{length, take}
+use lib.ListN.{length}
 use lib.Seq.{take-length}
 use Rattle.laws.specs.Bits.{has}
 use Rattle.action.specs.Table.{attributesOf}
@@ -22,11 +22,11 @@ use Rattle.moves.specs.Moves.{movesOf}
 use Rattle.moves.specs.laws.Moves.{legal-known}
 use Rattle.simulator.specs.declared.replay.Replay.{Replay}
 use Rattle.simulator.specs.Replay.{replayOf}
-use Rattle.simulator.specs.Promise.{after, EachLegal, Longest, PromiseBy}
+use Rattle.simulator.specs.Promise.{after, EachLegal, PromiseBy}
 use Rattle.simulator.specs.inner.Known.{AllKnown}
 use Rattle.simulator.specs.laws.Promise.{promised}
 use Rattle.tree.specs.declared.node.Node.{Node}
-use Rattle.tree.specs.Tree.{nodeAt, isChild, bestOf, onward, descentIn, actionsOf, lastOf, solutionOf, endOf}
+use Rattle.tree.specs.Tree.{nodeAt, bestOf, onward, descentIn, actionsOf, lastOf, solutionOf, endOf}
 use Rattle.tree.specs.laws.Best.{child-parent, best-listed}
 use Rattle.tree.specs.laws.Tree.{tree-falls}
 use Rattle.search.specs.Select.{stateAt}

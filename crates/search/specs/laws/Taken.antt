@@ -10,16 +10,13 @@ use native.Mathlib.Nat.{le-refl}
 use native.Mathlib.Omega.{arith}
 use lib.Dec.{eqb}
 use borrow.Author.Tests.{eq-eqb, ne-eqb}
-use Rattle.laws.specs.Bits.{has}
 use Rattle.laws.specs.laws.Tests.{and-false, or-true}
 use Rattle.craft_context.specs.declared.context.CraftContext.{CraftContext}
-use Rattle.moves.specs.Moves.{movesOf}
 use Rattle.tree.specs.declared.node.Node.{Node}
 use Rattle.tree.specs.Tree.{nodeAt, isChild, Falls}
 use Rattle.tree.specs.inner.Sound.{SoundTree}
 use Rattle.tree.specs.laws.Tree.{last-or-below, tree-falls}
-use Rattle.search.specs.Select.{stateAt}
-use Rattle.search.specs.inner.Grown.{modeAt, movesIn, isTaken, Growing}
+use Rattle.search.specs.inner.Grown.{movesIn, isTaken, Growing}
 use Rattle.search.specs.laws.States.{Alike, state-alike}
 
 -- a child's action is taken

@@ -1,7 +1,7 @@
 -- Back-propagation to record 0 in the records of a search: no record on the way is full, they are those of a search again, and the visits are those of one
 -- iteration more.
 -- Assumes nothing.
-use mathlib.Core.Path.{_≡_, refl, sym, ap, subst, _∙_}
+use mathlib.Core.Path.{_≡_, refl, sym, ap, _∙_}
 use mathlib.Core.Bool.{Bool, true, false, cond, _||_}
 use mathlib.Core.List.{List, []}
 use mathlib.Core.Logic.{_⊎_, inl, inr, ⊎-elim}
@@ -17,7 +17,7 @@ use Rattle.laws.specs.laws.Order.{le-through}
 use Rattle.laws.specs.laws.Tests.{true-false, either, neither}
 use Rattle.craft_context.specs.declared.context.CraftContext.{CraftContext}
 use Rattle.tree.specs.declared.node.Node.{Node}
-use Rattle.tree.specs.Node.{countMost, plusZero, isScore, isFull, touchedOf}
+use Rattle.tree.specs.Node.{countMost, isScore, isFull, touchedOf}
 use Rattle.tree.specs.Sound.{isCount}
 use Rattle.tree.specs.Tree.{nodeAt, Falls, pathIn, pathOf, anyFull, backOf}
 use Rattle.tree.specs.inner.Back.{Reaches}
@@ -28,8 +28,8 @@ use Rattle.search.specs.Iterate.{lastStored}
 use Rattle.search.specs.inner.Grown.{Growing, Visited}
 use Rattle.search.specs.laws.States.{Alike}
 use Rattle.search.specs.laws.Taken.{growing-alike}
-use Rattle.search.specs.laws.Visits.{float-rises, float-finite, float-more, count-finite, count-not-full, more-at-most, more-at-least}
-use Rattle.search.specs.laws.Upward.{path-root, root-reached}
+use Rattle.tree.specs.laws.Visits.{float-rises, float-finite, float-more, count-finite, count-not-full, more-at-most, more-at-least}
+use Rattle.tree.specs.laws.Upward.{path-root, root-reached}
 use Rattle.search.specs.inner.Links.{Links}
 use Rattle.search.specs.laws.Links.{links-alike}
 use Rattle.search.specs.laws.Stored.{Stored, last-inside, stored-path}
