@@ -29,6 +29,7 @@ use Rattle.rollout.specs.laws.RolledSampled.{Rolls, rolled, sampled-length, sam
 use Rattle.tree.specs.declared.node.Node.{Node}
 use Rattle.tree.specs.Node.{plusZero, isScore}
 use Rattle.tree.specs.Tree.{maxAt}
+use Rattle.tree.specs.laws.Back.{touched-length}
 use Rattle.tree.specs.laws.Tree.{tree-falls}
 use Rattle.search.specs.declared.options.SearchOptions.{SearchOptions}
 use Rattle.search.specs.Options.{iterationsMost}
@@ -39,7 +40,7 @@ use Rattle.search.specs.laws.Asked.{Asked}
 use Rattle.search.specs.laws.Legal.{unused-move, grown-timely}
 use Rattle.search.specs.laws.Descend.{selected-below}
 use Rattle.search.specs.laws.Stored.{Stored, stored}
-use Rattle.search.specs.laws.Touched.{iterated-growing, iterated-visited, iterated-length}
+use Rattle.search.specs.laws.Touched.{iterated}
 
 -- ---- the score that is propagated
 
@@ -151,18 +152,10 @@ module _ (c : CraftContext) (o : SearchOptions) (logs : List Float) (draws : Lis
             let within : n ≤ a .end - g .at = stored-most (isWorth (o .«score_storage_threshold») (maxAt (g .nodes) 0) (a .result)) (a .end - g .at) in
             let from : g .at ≤ a .end = rolls (a .rolls) .least in
             let st = iteration-stored (a .rolls) n (omega arith) (a .room) in
-            let score = propagated-score (a .rolls) in
+            let t = iterated c (g .nodes) (g .count) _ n done _ (grows .visited) selected-inside st (omega arith) (propagated-score (a .rolls)) in
             rw (a .same) (
-              record {
-                growing = iterated-growing c (g .nodes) (g .count) _ n done _ (grows .visited) selected-inside st (grows .growing .tree .some) (omega arith) score;
-                visited = iterated-visited c (g .nodes) (g .count) _ n done _ (grows .visited) selected-inside st (grows .growing .tree .some) (omega arith) score;
-              },
-              record {
-                long = iterated-length c (g .nodes) (g .count) _ n done _ (grows .visited) selected-inside st (grows .growing .tree .some) (omega arith) score;
-                more = omega arith;
-                room = a .room;
-                later = from;
-              },
+              record { growing = t .growing; visited = t .visited },
+              record { long = touched-length _ _ (scoreIn (a .result)) ∙ st .long; more = omega arith; room = a .room; later = from },
             )
 
 -- ---- draws beyond those used change nothing
