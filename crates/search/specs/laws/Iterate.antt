@@ -113,7 +113,8 @@ pub record Goes-on (g next : Growth) : Type 0 where
   pub room : next .count ≤ length (g .nodes)
   pub later : g .at ≤ next .at
 
-module _ (c : CraftContext) (o : SearchOptions) (logs : List Float) (draws : List ℕ) (g : Growth) (done : ℕ) (asked : Asked c o logs) (grows : Grows c g done) where
+module _ (c : CraftContext) (o : SearchOptions) (logs : List Float) (draws : List ℕ) (g : Growth) (done : ℕ) (asked : Asked c o logs)
+    (grows : Grows c g done) where
   -- where it starts
   pub selected-inside : selectedOf c o logs draws g < g .count
   selected-inside = selected-below o logs (g .nodes) (g .count) (tree-falls (grows .growing .tree)) (grows .growing .tree .some)

@@ -141,7 +141,9 @@ module _ (rate : ℕ → Float) (nodes : List Node) (count parent : ℕ) where
     -- ---- THE theorem
 
     listed : (j : ℕ) → elem (childrenOf count nodes parent) j ≡ true → (j < count) × Child j
-    listed j e = let is = both (ltb j count) (isChild j (nodeAt nodes j) parent) (sym (children-each nodes parent count j) ∙ e) in (ltb-true j count (is .0), is .1)
+    listed j e =
+        let is = both (ltb j count) (isChild j (nodeAt nodes j) parent) (sym (children-each nodes parent count j) ∙ e) in
+        (ltb-true j count (is .0), is .1)
 
     walked : None 0 (newestFrom rate count nodes parent 0) ⊎ Leads 0 (newestFrom rate count nodes parent 0)
     walked = down count 0 (le-refl count) (inl (record { none = refl; childless = λ j a h is. omega arith }))

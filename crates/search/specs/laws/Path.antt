@@ -55,15 +55,16 @@ module _ (c : CraftContext) (nodes : List Node) (count : ℕ) (growing : Growing
       plain-part c (stateAt c nodes k) k (nodeAt nodes b .action) (rw e at (growing .legal b some h)) in
       ((legal, rw next (rest .0)), ap (λ (s : CraftState). after attributesOf c s (actionsOf nodes path)) next ∙ rest .1)
 
-  leads-down : (steps k : ℕ)
-      → Leads c (stateAt c nodes k) (actionsOf nodes (descentIn steps nodes count k)) (stateAt c nodes (lastOf k (descentIn steps nodes count k)))
+  -- from record k on along these records
+  abbrev LeadsBy : ℕ → List ℕ → Type 0
+  LeadsBy k path = Leads c (stateAt c nodes k) (actionsOf nodes path) (stateAt c nodes (lastOf k path))
+
+  leads-down : (steps k : ℕ) → LeadsBy k (descentIn steps nodes count k)
   unfolding descentIn EachLegal after
   leads-down zero k = (tt, refl)
   leads-down (suc steps) k = go (bestOf count nodes k) refl (leads-down steps)
     where
-      go : (b : ℕ) → bestOf count nodes k ≡ b
-          → ((b : ℕ) → Leads c (stateAt c nodes b) (actionsOf nodes (descentIn steps nodes count b)) (stateAt c nodes (lastOf b (descentIn steps nodes count b))))
-          → Leads c (stateAt c nodes k) (actionsOf nodes (onward b (descentIn steps nodes count))) (stateAt c nodes (lastOf k (onward b (descentIn steps nodes count))))
+      go : (b : ℕ) → bestOf count nodes k ≡ b → ((b : ℕ) → LeadsBy b (descentIn steps nodes count b)) → LeadsBy k (onward b (descentIn steps nodes count))
       go zero e rest = (tt, refl)
       go (suc b) e rest =
           let child = rw e at (best-listed nodes count k (omega (arith, e))) in

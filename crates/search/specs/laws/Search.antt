@@ -159,4 +159,5 @@ module _ (c : CraftContext) (o : SearchOptions) (logs : List Float) (asked : Ask
       → take (growOf c o logs draws nodes .growth .at) others ≡ take (growOf c o logs draws nodes .growth .at) draws
       → growOf c o logs others nodes ≡ growOf c o logs draws nodes
   search-draws nodes some passed same =
-      grow-draws (o .iterations) (startGrowth c o logs draws nodes) 0 (start-grows c o logs asked draws nodes some) (omega (arith, asked .iterations)) passed same
+      grow-draws (o .iterations) (startGrowth c o logs draws nodes) 0 (start-grows c o logs asked draws nodes some) (omega (arith, asked .iterations)) passed
+      same

@@ -19,7 +19,7 @@ use Rattle.moves.specs.Moves.{movesOf}
 use Rattle.moves.specs.Modes.{strict}
 use Rattle.rollout.specs.laws.RolledSampled.{Sampled}
 use Rattle.tree.specs.declared.node.Node.{Node}
-use Rattle.tree.specs.Node.{plusZero}
+use Rattle.tree.specs.Node.{plusZero, nodeOf}
 use Rattle.tree.specs.Tree.{nodeAt, pathOf}
 use Rattle.tree.specs.laws.Tree.{last-or-below, tree-falls}
 use Rattle.search.specs.Select.{stateAt}
@@ -76,12 +76,18 @@ module _ (c : CraftContext) where
         shift : (i : ℕ) → count + suc i ≡ suc count + i
         shift i = omega arith
 
+        moves : ℕ
+        moves = movesOf c (executeOf c (stateAt c nodes k) action) strict
+
+        first : nodeAt after (count + 0) ≡ leftWith (nodeOf k action moves) (nodeAt after (count + 0) .unused)
+        first = rw add-zero (rw (below-new nodes count k action moves inside room) at (rest .kept count (omega arith)))
+
         fresh : (i : ℕ) → i < suc n → nodeAt after (count + i) .visits ≡ plusZero
-        fresh zero h = rw add-zero (ap (λ (m : Node). m .visits) (rest .kept count (omega arith)) ∙ ap (λ (m : Node). m .visits) (below-new nodes count k action _ inside room))
+        fresh zero h = ap (λ (m : Node). m .visits) first
         fresh (suc i) h = rw (shift i) (rest .fresh i (omega arith))
 
         chain : (i : ℕ) → i < suc n → nodeAt after (count + i) .parent ≡ lastStored count k i
-        chain zero h = rw add-zero (ap (λ (m : Node). m .parent) (rest .kept count (omega arith)) ∙ ap (λ (m : Node). m .parent) (below-new nodes count k action _ inside room))
+        chain zero h = ap (λ (m : Node). m .parent) first
         chain (suc i) h = ap (λ (j : ℕ). nodeAt after j .parent) (shift i) ∙ rest .chain i (omega arith) ∙ last-more count k i
 
   -- THE law of what is stored

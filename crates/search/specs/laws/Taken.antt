@@ -66,7 +66,8 @@ module _ (c : CraftContext) (nodes others : List Node) (count : ℕ) (growing : 
         legal = λ k some h. rw (alike .parent k h, alike .action k h, moves-alike c nodes others count falls alike (nodeAt nodes k .parent) (below k some h))
             (growing .legal k some h);
         left = λ k h n l.
-            rw (unused k h, moves-alike c nodes others count falls alike k h, taken-alike nodes others count alike count k n (le-refl count)) (growing .left k h n l);
+            rw (unused k h, moves-alike c nodes others count falls alike k h, taken-alike nodes others count alike count k n (le-refl count))
+            (growing .left k h n l);
         once = λ j k a b i l p q. growing .once j k a b i l (sym (alike .parent j b) ∙ p ∙ alike .parent k l) (sym (alike .action j b) ∙ q ∙ alike .action k l);
       }
     where
