@@ -12,6 +12,9 @@ pub mod Descend
 pub mod Newest
 pub mod DeadEnd
 pub mod Links
+pub mod Indexed
+pub mod Rating
+pub mod Selecting
 pub mod Touched
 pub mod Iterate
 pub mod Path
