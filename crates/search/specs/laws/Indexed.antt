@@ -4,7 +4,7 @@ use mathlib.Core.Path.{_≡_, refl, sym, ap, _∙_}
 use mathlib.Core.Bool.{Bool, true, false, not, cond}
 use mathlib.Core.List.{List}
 use Prim.Native.Nat.{ℕ, zero, suc, _+_, _-_, _≤_, _<_}
-use native.Mathlib.Nat.{le-refl, le-antisymm}
+use native.Mathlib.Nat.{le-refl}
 use native.Mathlib.Omega.{arith}
 use lib.Dec.{eqb, ltb}
 use lib.ListN.{length}
@@ -34,15 +34,11 @@ module _ (count : ℕ) where
       go true e = below (ltb-true count linked e)
       go false e = past (ltb-false count linked e)
 
-  pub top-linked : topOf count ≤ linked
+  top-linked : topOf count ≤ linked
   top-linked = by-test (λ n. n ≤ linked) (λ l. omega arith) (λ l. le-refl linked)
 
   top-some : 0 < count → 0 < topOf count
   top-some some = by-test (λ n. 0 < n) (λ l. some) (λ l. omega arith)
-
-  -- where the search past the index ends
-  pub top-end : (k : ℕ) → k ≤ count → k ≤ linked → topOf count ≤ k → k ≡ topOf count
-  top-end k a b c = le-antisymm (by-test (λ n. k ≤ n) (λ l. a) (λ l. b)) c
 
 -- ---- past the index, record by record
 
