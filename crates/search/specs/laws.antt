@@ -15,3 +15,4 @@ pub mod Touched
 pub mod Iterate
 pub mod Path
 pub mod Search
+pub mod Answer

@@ -1,5 +1,5 @@
--- The way down of `select`: the next record is a child, so it is above its parent and used; counted steps are enough, it ends where there is no next record, and
--- the state goes along.
+-- The way down of `select`: the next record is a child, so it is above its parent and used; counted steps are enough, it ends where there is no next record,
+-- and the state goes along.
 -- Assumes nothing.
 use mathlib.Core.Path.{_≡_, refl, sym, ap, _∙_}
 use mathlib.Core.Bool.{Bool, true, false, cond}

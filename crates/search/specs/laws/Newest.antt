@@ -5,8 +5,9 @@ use mathlib.Core.Path.{_≡_, refl, sym, _∙_}
 use mathlib.Core.Bool.{Bool, true, false, not, cond, _||_}
 use mathlib.Core.List.{List}
 use mathlib.Core.Logic.{_⊎_, inl, inr, ⊎-elim}
-use Prim.Native.Nat.{ℕ, zero, suc, _≤_, _<_}
+use Prim.Native.Nat.{ℕ, zero, suc, _+_, _≤_, _<_}
 use native.Mathlib.Nat.{eq-or-lt-of-le, le-refl}
+use native.Mathlib.Numerals.{add-one}
 use native.Mathlib.Omega.{arith}
 use lib.Dec.{T, eqb, leb, ltb}
 use lib.Ieee.{Float, lt, le}
@@ -39,6 +40,12 @@ betterAt rate best k = cond (eqb best 0 || lt (rate best) (rate k)) k best
 unfoldable pub newestFrom : (ℕ → Float) → ℕ → List Node → ℕ → ℕ → ℕ
 newestFrom rate zero nodes parent best = best
 newestFrom rate (suc k) nodes parent best = newestFrom rate k nodes parent (cond (isChild k (nodeAt nodes k) parent) (betterAt rate best k) best)
+
+-- record by record, for a loop
+pub newest-next : (rate : ℕ → Float) (k : ℕ) (nodes : List Node) (parent best : ℕ)
+    → newestFrom rate (k + 1) nodes parent best ≡ newestFrom rate k nodes parent (cond (isChild k (nodeAt nodes k) parent) (betterAt rate best k) best)
+unfolding newestFrom
+newest-next rate k nodes parent best = rw add-one
 
 module _ (rate : ℕ → Float) (nodes : List Node) (count parent : ℕ) where
   abbrev Child : ℕ → Type 0
