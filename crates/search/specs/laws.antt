@@ -1,11 +1,11 @@
 pub mod States
 pub mod Taken
 pub mod Moves
+pub mod Legal
 pub mod Below
 pub mod Stored
 pub mod Asked
 pub mod Planted
-pub mod Legal
 pub mod Rated
 pub mod Descend
 pub mod Newest

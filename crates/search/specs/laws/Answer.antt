@@ -15,7 +15,7 @@ use Rattle.laws.specs.laws.Tests.{both}
 use Rattle.refusal.specs.declared.Refusal.{Refusal}
 use Rattle.refusal.specs.declared.Checked.{Checked}
 use Rattle.refusal.specs.declared.Checked.the-variants.{Passed, Refused}
-use Rattle.refusal.specs.Judge.{Test, judged, checksOf, roomTest}
+use Rattle.refusal.specs.Judge.{Test, checksOf, roomTest}
 use Rattle.refusal.specs.laws.Judge.{judged-passed, judged-refused, shown, shown-by}
 use Rattle.text.specs.Over.{over}
 use Rattle.craft_context.specs.declared.context.CraftContext.{CraftContext}

@@ -9,10 +9,10 @@ use Prim.Native.Nat.{ℕ, zero, suc, _+_, _≤_, _<_}
 use native.Mathlib.Nat.{eq-or-lt-of-le, le-refl}
 use native.Mathlib.Numerals.{add-one}
 use native.Mathlib.Omega.{arith}
-use lib.Dec.{T, eqb, leb, ltb}
+use lib.Dec.{T, eqb, leb}
 use lib.Ieee.{Float, lt, le}
 use lib.Ieee.Scale.{finite}
-use borrow.Author.Tests.{ltb-true, lt-ltb, leb-true, leb-false, ne-eqb, eqb-false, not-true, not-false}
+use borrow.Author.Tests.{lt-ltb, leb-true, leb-false, ne-eqb, eqb-false, not-true, not-false}
 use Rattle.laws.specs.Lists.{elem}
 use Rattle.laws.specs.laws.Order.{le-same, lt-le, lt-after, lt-or-ge}
 use Rattle.laws.specs.laws.Tests.{true-false, both, and-both, either}
@@ -29,7 +29,7 @@ use Rattle.search.specs.Options.{iterationsMost}
 use Rattle.search.specs.Select.{rateAt}
 use Rattle.search.specs.inner.Grown.{Visited}
 use Rattle.search.specs.laws.Asked.{Asked}
-use Rattle.search.specs.laws.Descend.{picked-child}
+use Rattle.search.specs.laws.Descend.{child-listed, picked-child}
 use Rattle.search.specs.laws.Rated.{child-finite}
 
 -- record k in place of the one found, 0 where there is none yet
@@ -148,9 +148,7 @@ module _ (rate : ℕ → Float) (nodes : List Node) (count parent : ℕ) where
     -- ---- THE theorem
 
     listed : (j : ℕ) → elem (childrenOf count nodes parent) j ≡ true → (j < count) × Child j
-    listed j e =
-        let is = both (ltb j count) (isChild j (nodeAt nodes j) parent) (sym (children-each nodes parent count j) ∙ e) in
-        (ltb-true j count (is .0), is .1)
+    listed = child-listed nodes count parent
 
     walked : None 0 (newestFrom rate count nodes parent 0) ⊎ Leads 0 (newestFrom rate count nodes parent 0)
     walked = down count 0 (le-refl count) (inl (record { none = refl; childless = λ j a h is. omega arith }))
