@@ -10,3 +10,7 @@ pub mod Touched
 pub mod Planted
 pub mod Asked
 pub mod Legal
+pub mod Rated
+pub mod Descend
+pub mod Iterate
+pub mod Path
