@@ -14,3 +14,4 @@ pub mod Rated
 pub mod Descend
 pub mod Iterate
 pub mod Path
+pub mod Search
