@@ -15,3 +15,5 @@ pub mod Descend
 pub mod Iterate
 pub mod Path
 pub mod Search
+pub mod Links
+pub mod Storing
