@@ -6,12 +6,15 @@ pub mod Below
 pub mod Visits
 pub mod Upward
 pub mod Stored
-pub mod Touched
-pub mod Planted
 pub mod Asked
+pub mod Planted
 pub mod Legal
 pub mod Rated
 pub mod Descend
+pub mod Newest
+pub mod DeadEnd
+pub mod Links
+pub mod Touched
 pub mod Iterate
 pub mod Path
 pub mod Search

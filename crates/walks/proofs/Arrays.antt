@@ -19,7 +19,7 @@ use types.Kit.{Given, Item, ‵, _⊛_, some, later, Post, Goal, runs, Soaks, �
 use types.Tokens.{lft-new, lft-end}
 use types.SemTy.{cells, Arr}
 use types.Share.{arr-parts}
-use types.Run.{Opd, Rv, Walks, Finds, look, init, stop, from, load, addr, and-then, no-more, assigns}
+use types.Run.{Opd, Rv, Walks, Finds, stop, from, load, addr, and-then, no-more, assigns}
 use types.Part.{rep, agg}
 use denote.RattleType.{RattleType}
 use denote.Shadow.{shadow, pureL}

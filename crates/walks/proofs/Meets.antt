@@ -28,7 +28,7 @@ use denote.Exit.{Exit, unchanged, Last, left, yes}
 use denote.Laws.{Is, Ises, Are, Spells, Tellss, Lawfuls, Typed, valss, all-typed}
 use denote.Ref.{name, now, at-last}
 use denote.Slice.{sliceVal, MutSlice, ShrSlice, slice-vals, mut-slice-tells, shr-slice-tells, mut-slice-lawful, shr-slice-lawful, finally, res-finally, codedHoleys, heres}
-use denote.Signature.{Slot, plain}
+use denote.Signature.{plain}
 use denote.Steps.{nothing}
 use denote.Triple.Entry.{onEntry}
 use denote.Triple.End.{Fins, all, outs}
@@ -290,13 +290,13 @@ module _ {M : Type 1} (𝓤 : URA M) (H : Heap 𝓤) (A : Atoms 𝓤) (W : Given
       ask-out 𝓤 (F .asks) X d In (λ pre.
       subst (λ (vs : List Val). ent 𝓤 In (run vs Q)) (sym (vals-are ∙ ap (fats ls S) (flat-is n ks κs (plainsOf n ks κs ls 0 π a))))
       (let body : Sq W (held ls S X) (prop (run (fats ls S (machine ks d)) Q)) =
-          starts ! (held ls S X) (𝓣 .C) (𝓣 .Λ) fn (fats ls S (machine ks d)) Q l locals is
-          (λ bs. suits κs S (plainsOf n ks κs ls 0 π a) bs (subst (Typed (mirs (typesOf n ks κs ls 0 π))) vals-are (all-typed 𝓤 H A (typesOf n ks κs ls 0 π) (lawfuls-in n ks 𝓤 H A W κs ls 0 π) a vss are)))
-          (λ bs. walk S X d (plain-are n ks κs ls 0 π a are) (long-in n ks κs ls 0 π qs a are) pre bs Q (λ r Z r-is long e.
-          suffices ! _ (ends-at 𝓤 H A (slicesT F) (staysIn n ks ls 0 π) (slices-clauses F 𝓤 H A) W ((κs, qs, bounds, a, vss), g) (F .gives .val r) r (lastsIn n ks κs ls 0 π a Z) (fits-in n ks κs ls 0 π qs a are Z long)) $
-          changes ! ((raw (Alive n ks 𝓤 H A W κs ls π qs) ⊛ ‵ (had n ks 𝓤 H A W κs ls 0 π a Z)) ∷ []) (via 𝓤 _ (held-out 𝓤 H A ls S (ended ls X Z)) (leaves n ks 𝓤 H A W κs ls 0 π qs a are Z)) $ split ! $
-          use0 W (‵ (F .gives .row .own r (F .gives .val r ∷ []))) (F .gives .makes 𝓤 H A W r (F .gives .val r ∷ []) r-is) $ move ! (2 ∷ 0 ∷ []) $ join ! $ move ! (1 ∷ 0 ∷ []) $ join ! $
-          use0 W (raw (fact 𝓤 (F .says X d r (leftsOf n ks κs ls 0 π (atExit (slicesT F) κs a (lastsIn n ks κs ls 0 π a Z)))))) (factI 𝓤 _ (emp 𝓤) (subst (F .says X d r) (sym (lefts-are n ks κs ls 0 π a Z)) e)) $ move ! (1 ∷ 0 ∷ []) $ done !)) in
+      starts ! (held ls S X) (𝓣 .C) (𝓣 .Λ) fn (fats ls S (machine ks d)) Q l locals is
+      (λ bs. suits κs S (plainsOf n ks κs ls 0 π a) bs (subst (Typed (mirs (typesOf n ks κs ls 0 π))) vals-are (all-typed 𝓤 H A (typesOf n ks κs ls 0 π) (lawfuls-in n ks 𝓤 H A W κs ls 0 π) a vss are)))
+      (λ bs. walk S X d (plain-are n ks κs ls 0 π a are) (long-in n ks κs ls 0 π qs a are) pre bs Q (λ r Z r-is long e.
+      suffices ! _ (ends-at 𝓤 H A (slicesT F) (staysIn n ks ls 0 π) (slices-clauses F 𝓤 H A) W ((κs, qs, bounds, a, vss), g) (F .gives .val r) r (lastsIn n ks κs ls 0 π a Z) (fits-in n ks κs ls 0 π qs a are Z long)) $
+      changes ! ((raw (Alive n ks 𝓤 H A W κs ls π qs) ⊛ ‵ (had n ks 𝓤 H A W κs ls 0 π a Z)) ∷ []) (via 𝓤 _ (held-out 𝓤 H A ls S (ended ls X Z)) (leaves n ks 𝓤 H A W κs ls 0 π qs a are Z)) $ split ! $
+      use0 W (‵ (F .gives .row .own r (F .gives .val r ∷ []))) (F .gives .makes 𝓤 H A W r (F .gives .val r ∷ []) r-is) $ move ! (2 ∷ 0 ∷ []) $ join ! $ move ! (1 ∷ 0 ∷ []) $ join ! $
+      use0 W (raw (fact 𝓤 (F .says X d r (leftsOf n ks κs ls 0 π (atExit (slicesT F) κs a (lastsIn n ks κs ls 0 π a Z)))))) (factI 𝓤 _ (emp 𝓤) (subst (F .says X d r) (sym (lefts-are n ks κs ls 0 π a Z)) e)) $ move ! (1 ∷ 0 ∷ []) $ done !)) in
       via 𝓤 _ (enters n ks 𝓤 H A W κs ls 0 π qs a are) (via 𝓤 _ (held-in 𝓤 H A ls S X) (body .prf))))))
 
 -- ---- of few slices

@@ -51,9 +51,9 @@
 --                                     calls-shared, of a `&mut` lent as `&`, and calls-shr, of a `&`: the same with (λ r is ty said. ..)
 --                                     calls-both 𝓣 S ys ! O os then f′ theorem arguments known same same-o asked (λ _ _. operands) (λ r zs is ty same′ said. ..)
 --                                     calls-plain ! 𝓣 then f′ theorem arguments known asked (λ _. operands) (λ r is ty said. ..)
---                                     calls-slices ! 𝓣 (again 0 S ys same ∷ shared 1 L ls same-l ∷ on 2 G gs same-g ∷ []) (λ _. refl) then f′ theorem arguments known asked (λ _ _. operands) (λ r z is ty long said. ..)
---                                     for any slices, wherever they stand: the callee's in its own order, each with its number among those that the context begins with. again, a `&mut` lent again; shared, a `&mut` lent as `&`; on, a `&` passed on.
---                                     z and long are rows of what the callee left of those that are lent again. An f′ that is a MutFn, a ShrFn or a BothFn is written of-mut f′, of-shr f′, of-both f′; a `reborrows` stands before it for each of again and shared
+--                                     calls-slices ! 𝓣 (lend-mut 0 S ys same ∷ lend-shr 1 L ls same-l ∷ pass-shr 2 G gs same-g ∷ []) (λ _. refl) then f′ theorem arguments known asked (λ _ _. operands) (λ r z is ty long said. ..)
+--                                     for any slices, wherever they stand: the callee's in its own order, each with its number among those that the context begins with. lend-mut, a `&mut` is lent again; lend-shr, a `&mut` is lent as `&`; pass-shr, a `&` is passed on.
+--                                     z and long are rows of what the callee left of those that are lent again. An f′ that is a MutFn, a ShrFn or a BothFn is written of-mut f′, of-shr f′, of-both f′; a `reborrows` stands before it for each lend-mut and lend-shr
 --        _y = &(*_x.0), _z = [_y, _x.1]      reborrows ! (S .room .0) refl refl refl refl refl refl refl refl $
 --        _j = [x; n]                  fills ! k n x known operand refl refl (λ xs same is. ..): the list xs is n times x, and stays so until it is lent as a `&mut`
 --        _y = &_j, _z = [_y, n]       borrows ! (lit< tt) refl refl refl refl refl refl $ lends-array ! tt k tt n room xs is place refl (λ ν δ. ..), where the call takes it by `lent-view`, and before the result lands
@@ -93,5 +93,5 @@ pub use Rattle.walks.proofs.Elements.{reads-at, writes-at}
 pub use Rattle.walks.proofs.Arrays.{array-val, lent-view, restated, fills, borrows, lends-array, takes-array}
 pub use Rattle.walks.proofs.Lend.{fat, Own, Shr, Tok}
 pub use Rattle.walks.proofs.Functions.{of-mut, of-shr, of-both}
-pub use Rattle.walks.proofs.Calls.{then, last, again, shared, on, calls-slices, calls-mut, calls-shared, calls-shr, calls-both, calls-plain}
+pub use Rattle.walks.proofs.Calls.{then, last, lend-mut, lend-shr, pass-shr, calls-slices, calls-mut, calls-shared, calls-shr, calls-both, calls-plain}
 pub use Rattle.walks.proofs.Meets.{over, slices-proved, mut-proved, shr-proved, both-proved}

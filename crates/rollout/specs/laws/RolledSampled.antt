@@ -7,9 +7,10 @@ use mathlib.Core.List.{List, [], _∷_, _++_}
 use Prim.Native.Nat.{ℕ, zero, suc, _+_, _≤_, _<_}
 use native.Mathlib.Omega.{arith}
 use lib.Dec.{eqb, ltb}
-use lib.ListN.{length, take}
+use lib.ListN.{length, take, drop, getD}
 use borrow.Author.Tests.{ltb-true}
 use Rattle.laws.specs.Bits.{has}
+use Rattle.laws.specs.laws.Lists.{drop-at}
 use Rattle.action.specs.Table.{attributesOf}
 use Rattle.action.specs.laws.Bounds.{rows-bounded}
 use Rattle.refusal.specs.declared.Refusal.{Refusal}
@@ -43,6 +44,14 @@ sampled-length c s moves zero draws h = refl
 sampled-length c s moves (suc n) [] h = absurd (omega arith)
 sampled-length c s moves (suc n) (d ∷ draws) h =
     ap suc (sampled-length c (drawnState c s moves d) (strictMoves c (drawnState c s moves d)) n draws (omega arith))
+
+-- one draw after the other, for a loop over them
+pub sampled-next : (c : CraftContext) (s : CraftState) (moves n at : ℕ) (draws : List ℕ) → at < length draws
+    → sampledOf c s moves (suc n) (drop at draws)
+    ≡ nthOf moves (getD draws at 0)
+    ∷ sampledOf c (drawnState c s moves (getD draws at 0)) (strictMoves c (drawnState c s moves (getD draws at 0))) n (drop (at + 1) draws)
+unfolding sampledOf
+sampled-next c s moves n at draws h = rw (drop-at draws at h)
 
 -- and no other draw counts
 pub sampled-take : (c : CraftContext) (s : CraftState) (moves n : ℕ) (draws : List ℕ) → sampledOf c s moves n (take n draws) ≡ sampledOf c s moves n draws

@@ -39,6 +39,18 @@ use Rattle.search.specs.laws.Moves.{member-known, moves-set}
 
 -- ---- what each record is
 
+-- a record with other unused moves
+abbrev pub leftWith : Node → ℕ → Node
+leftWith n unused =
+    record {
+      parent = n .parent;
+      action = n .action;
+      visits = n .visits;
+      «score_sum» = n .«score_sum»;
+      «max_score» = n .«max_score»;
+      unused = unused;
+    }
+
 abbrev drawnAt : List Node → ℕ → ℕ → List Node
 drawnAt nodes k action = set nodes k (drawnFrom (nodeAt nodes k) action)
 
@@ -62,22 +74,22 @@ module _ (nodes : List Node) (count k action moves : ℕ) where
         getD-set-other (drawnAt nodes k action) count j (nodeOf k action moves) noNode a
         ∙ getD-set-other nodes k j (drawnFrom (nodeAt nodes k) action) noNode b
 
-    -- a fact of all that were used, from that of the one whose action was drawn
-    used-keep : {A : Type 0} (f : Node → A) → f (drawnFrom (nodeAt nodes k) action) ≡ f (nodeAt nodes k)
-        → (j : ℕ) → j < count → f (nodeAt (belowOf nodes count k action moves) j) ≡ f (nodeAt nodes j)
-    used-keep f same j h = ⊎-elim here there (either (eqb j k))
+    -- of a record that was used all but its unused moves stays
+    pub below-kept : (j : ℕ) → j < count
+        → nodeAt (belowOf nodes count k action moves) j ≡ leftWith (nodeAt nodes j) (nodeAt (belowOf nodes count k action moves) j .unused)
+    below-kept j h = ⊎-elim here there (either (eqb j k))
       where
-        here : eqb j k ≡ true → f (nodeAt (belowOf nodes count k action moves) j) ≡ f (nodeAt nodes j)
-        here e = rw (eqb-true j k e) (ap f below-drawn ∙ same)
+        after : Node
+        after = nodeAt (belowOf nodes count k action moves) j
 
-        there : eqb j k ≡ false → f (nodeAt (belowOf nodes count k action moves) j) ≡ f (nodeAt nodes j)
-        there e = ap f (below-other j (λ q. omega arith) (eqb-false j k e))
+        here : eqb j k ≡ true → after ≡ leftWith (nodeAt nodes j) (after .unused)
+        here e = rw (eqb-true j k e, below-drawn)
+
+        there : eqb j k ≡ false → after ≡ leftWith (nodeAt nodes j) (after .unused)
+        there e = rw (below-other j (λ q. omega arith) (eqb-false j k e))
 
     pub below-alike : Alike nodes (belowOf nodes count k action moves) count
-    below-alike = record { parent = used-keep (λ n. n .parent) refl; action = used-keep (λ n. n .action) refl }
-
-    pub below-visits : (j : ℕ) → j < count → nodeAt (belowOf nodes count k action moves) j .visits ≡ nodeAt nodes j .visits
-    below-visits = used-keep (λ n. n .visits) refl
+    below-alike = record { parent = λ j h. ap (λ (n : Node). n .parent) (below-kept j h); action = λ j h. ap (λ (n : Node). n .action) (below-kept j h) }
 
 -- ---- the records of a search again
 

@@ -9,20 +9,31 @@ use lib.Dec.{eqb, ltb}
 use lib.Ieee.{Float}
 use borrow.Author.Tests.{ltb-true}
 use Rattle.laws.specs.laws.Tests.{both}
+use Rattle.action.specs.Bounds.{RowBounds}
+use Rattle.action.specs.Table.{attributesOf}
+use Rattle.craft_context.specs.declared.context.CraftContext.{CraftContext}
+use Rattle.craft_context.specs.Limits.{ContextIn}
+use Rattle.craft_state.specs.Limits.{stepMost}
+use Rattle.step.specs.Step.{executeOf}
+use Rattle.step.specs.inner.Asked.{Playable}
 use Rattle.tree.specs.declared.node.Node.{Node}
 use Rattle.tree.specs.Tree.{nodeAt, Falls, isChild, childrenOf, bestBy, onward, lastOf}
 use Rattle.tree.specs.inner.Few.{followIn, Rises}
 use Rattle.tree.specs.laws.Best.{child-parent}
 use Rattle.tree.specs.laws.Children.{children-each}
 use Rattle.tree.specs.laws.Follow.{follow-steps}
+use Rattle.tree.specs.laws.Tree.{tree-falls}
 use Rattle.tree.specs.laws.Yield.{in-found}
 use Rattle.search.specs.declared.options.SearchOptions.{SearchOptions}
-use Rattle.search.specs.Select.{rateAt, nextOf, toward, selectIn, selectOf}
+use Rattle.search.specs.Select.{rateAt, nextOf, toward, selectIn, selectOf, stateAt}
+use Rattle.search.specs.inner.Grown.{Growing}
+use Rattle.search.specs.laws.States.{state-below}
+use Rattle.search.specs.laws.Legal.{grown-playable}
 
 -- the best by any rate is a child
-pub best-child : (rate : ℕ → Float) (nodes : List Node) (count k : ℕ) → 0 < bestBy rate count nodes k
+pub picked-child : (rate : ℕ → Float) (nodes : List Node) (count k : ℕ) → 0 < bestBy rate count nodes k
     → (bestBy rate count nodes k < count) × (isChild (bestBy rate count nodes k) (nodeAt nodes (bestBy rate count nodes k)) k ≡ true)
-best-child rate nodes count k some =
+picked-child rate nodes count k some =
     let b : ℕ = bestBy rate count nodes k in
     let found = in-found rate (childrenOf count nodes k) (childrenOf count nodes k) some in
     let is = both (ltb b count) (isChild b (nodeAt nodes b) k) (sym (children-each nodes k count b) ∙ found .0) in
@@ -39,7 +50,7 @@ module _ (o : SearchOptions) (logs : List Float) (nodes : List Node) (count : �
       best = bestBy (rateAt o logs nodes k) count nodes k
 
       go : (t : Bool) → 0 < cond t best 0 → (cond t best 0 < count) × (isChild (cond t best 0) (nodeAt nodes (cond t best 0)) k ≡ true)
-      go true some = best-child (rateAt o logs nodes k) nodes count k some
+      go true some = picked-child (rateAt o logs nodes k) nodes count k some
       go false some = absurd (omega arith)
 
   pub next-parent : (k : ℕ) → 0 < next k → nodeAt nodes (next k) .parent ≡ k
@@ -115,3 +126,22 @@ module _ (o : SearchOptions) (logs : List Float) (nodes : List Node) (count : �
 
     pub selected-last : next (selectOf o logs nodes count) ≡ 0
     selected-last = select-ends count 0 (omega arith)
+
+-- ---- the state is carried along: at the next record it is that after its action, which may be executed
+
+module _ (c : CraftContext) (o : SearchOptions) (logs : List Float) (nodes : List Node) (count : ℕ) (growing : Growing c nodes count) (k : ℕ)
+    (some : 0 < nextOf o logs nodes count k) where
+  abbrev child : ℕ
+  child = nextOf o logs nodes count k
+
+  abbrev action : ℕ
+  action = nodeAt nodes child .action
+
+  pub next-state : stateAt c nodes child ≡ executeOf c (stateAt c nodes k) action
+  next-state =
+      rw (next-parent o logs nodes count k some) at (state-below c nodes count (tree-falls (growing .tree)) child some (next-child o logs nodes count k some .0))
+
+  pub next-playable : ContextIn c → c .«step_max» ≤ stepMost
+      → Playable c (stateAt c nodes k) action (attributesOf action) × RowBounds action (attributesOf action)
+  next-playable context byte =
+      rw (next-parent o logs nodes count k some) at (grown-playable c nodes count growing context byte child some (next-child o logs nodes count k some .0))

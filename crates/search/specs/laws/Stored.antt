@@ -26,16 +26,14 @@ use Rattle.tree.specs.laws.Tree.{last-or-below, tree-falls}
 use Rattle.search.specs.Select.{stateAt}
 use Rattle.search.specs.Iterate.{belowOf, storeOf, lastStored}
 use Rattle.search.specs.inner.Grown.{Growing}
-use Rattle.search.specs.laws.States.{Alike}
 use Rattle.search.specs.laws.Upward.{path-starts, path-longer}
-use Rattle.search.specs.laws.Below.{below-length, below-new, below-alike, below-visits, below-state, below-growing}
+use Rattle.search.specs.laws.Below.{leftWith, below-length, below-new, below-kept, below-state, below-growing}
 
 -- n records more, below record k
 pub record Stored (c : CraftContext) (nodes : List Node) (count k n : ℕ) (after : List Node) : Type 0 where
   pub growing : Growing c after (count + n)
   pub long : length after ≡ length nodes
-  pub alike : Alike nodes after count
-  pub visits : (j : ℕ) → j < count → nodeAt after j .visits ≡ nodeAt nodes j .visits
+  pub kept : (j : ℕ) → j < count → nodeAt after j ≡ leftWith (nodeAt nodes j) (nodeAt after j .unused)
   pub fresh : (i : ℕ) → i < n → nodeAt after (count + i) .visits ≡ plusZero
   -- the parent of the first is record k, and of each other the one before
   pub chain : (i : ℕ) → i < n → nodeAt after (count + i) .parent ≡ lastStored count k i
@@ -54,8 +52,7 @@ module _ (c : CraftContext) where
       record {
         growing = rw add-zero growing;
         long = refl;
-        alike = record { parent = λ j h. refl; action = λ j h. refl };
-        visits = λ j h. refl;
+        kept = λ j h. refl;
         fresh = λ i h. absurd (omega arith);
         chain = λ i h. absurd (omega arith);
       }
@@ -68,12 +65,8 @@ module _ (c : CraftContext) where
         record {
           growing = subst (Growing c after) (sym next) (rest .growing);
           long = rest .long ∙ below-length nodes count k action _;
-          alike =
-              record {
-                parent = λ j h. rest .alike .parent j (omega arith) ∙ below-alike nodes count k action _ inside room .parent j h;
-                action = λ j h. rest .alike .action j (omega arith) ∙ below-alike nodes count k action _ inside room .action j h;
-              };
-          visits = λ j h. rest .visits j (omega arith) ∙ below-visits nodes count k action _ inside room j h;
+          kept = λ j h.
+              rest .kept j (omega arith) ∙ ap (λ (n : Node). leftWith n (nodeAt after j .unused)) (below-kept nodes count k action _ inside room j h);
           fresh = fresh;
           chain = chain;
         }
@@ -85,11 +78,11 @@ module _ (c : CraftContext) where
         shift i = omega arith
 
         fresh : (i : ℕ) → i < suc n → nodeAt after (count + i) .visits ≡ plusZero
-        fresh zero h = rw add-zero (rest .visits count (omega arith) ∙ ap (λ (m : Node). m .visits) (below-new nodes count k action _ inside room))
+        fresh zero h = rw add-zero (ap (λ (m : Node). m .visits) (rest .kept count (omega arith)) ∙ ap (λ (m : Node). m .visits) (below-new nodes count k action _ inside room))
         fresh (suc i) h = rw (shift i) (rest .fresh i (omega arith))
 
         chain : (i : ℕ) → i < suc n → nodeAt after (count + i) .parent ≡ lastStored count k i
-        chain zero h = rw add-zero (rest .alike .parent count (omega arith) ∙ ap (λ (m : Node). m .parent) (below-new nodes count k action _ inside room))
+        chain zero h = rw add-zero (ap (λ (m : Node). m .parent) (rest .kept count (omega arith)) ∙ ap (λ (m : Node). m .parent) (below-new nodes count k action _ inside room))
         chain (suc i) h = ap (λ (j : ℕ). nodeAt after j .parent) (shift i) ∙ rest .chain i (omega arith) ∙ last-more count k i
 
   -- THE law of what is stored

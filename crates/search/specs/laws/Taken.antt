@@ -43,6 +43,12 @@ taken-none nodes count falls (suc (suc t)) k n a b =
     rw (taken-none nodes count falls (suc t) k n (omega arith) (omega arith), ne-eqb (nodeAt nodes (suc t) .parent) k (λ e. omega arith))
     (ap (λ (b : Bool). b && eqb (nodeAt nodes (suc t) .action) n) (and-false (not (eqb (suc t) 0))))
 
+-- no children, no actions
+pub taken-childless : (nodes : List Node) (t k n : ℕ) → ((j : ℕ) → j < t → isChild j (nodeAt nodes j) k ≡ false) → isTaken t nodes k n ≡ false
+unfolding isTaken
+taken-childless nodes zero k n none = refl
+taken-childless nodes (suc t) k n none = rw (taken-childless nodes t k n (λ j h. none j (omega arith)), none t (omega arith))
+
 pub taken-alike : (nodes others : List Node) (count : ℕ) → Alike nodes others count → (t k n : ℕ) → t ≤ count → isTaken t others k n ≡ isTaken t nodes k n
 unfolding isTaken
 taken-alike nodes others count alike zero k n h = refl

@@ -30,6 +30,8 @@ use Rattle.search.specs.laws.States.{Alike}
 use Rattle.search.specs.laws.Taken.{growing-alike}
 use Rattle.search.specs.laws.Visits.{float-rises, float-finite, float-more, count-finite, count-not-full, more-at-most, more-at-least}
 use Rattle.search.specs.laws.Upward.{path-root, root-reached}
+use Rattle.search.specs.inner.Links.{Links}
+use Rattle.search.specs.laws.Links.{links-alike}
 use Rattle.search.specs.laws.Stored.{Stored, last-inside, stored-path}
 
 none-full : (nodes : List Node) (count : ℕ) → Falls nodes count → ((k : ℕ) → k < count → isFull (nodeAt nodes k) ≡ false)
@@ -75,6 +77,10 @@ module _ (c : CraftContext) (nodes : List Node) (count end done : ℕ) (score : 
   unfolding touchedOf
   touch-unused = keeps (λ n. n .unused) (λ n. refl)
 
+  -- so the index of children does
+  pub touch-links : (links : List ℕ) → Links nodes count links → Links after count links
+  touch-links links l = links-alike nodes after count links (touch-alike .parent) l
+
   pub touch-growing : Growing c after count
   touch-growing =
       growing-alike c nodes after count growing touch-alike (λ k h. touch-unused k)
@@ -113,7 +119,7 @@ module _ (c : CraftContext) (nodes : List Node) (count k n done : ℕ) (score : 
   stored-most j h = ⊎-elim old new (either (ltb j count))
     where
       old : ltb j count ≡ true → T (le (nodeAt after j .visits) (float done))
-      old e = let l : j < count = ltb-true j count e in rw (st .visits j l) (visited .most j l)
+      old e = let l : j < count = ltb-true j count e in rw (st .kept j l) (visited .most j l)
 
       new : ltb j count ≡ false → T (le (nodeAt after j .visits) (float done))
       new e =
@@ -133,12 +139,12 @@ module _ (c : CraftContext) (nodes : List Node) (count k n done : ℕ) (score : 
 
     pub iterated-visited : Visited (backOf after end 0 score) (count + n) (done + 1)
     iterated-visited =
-        touch-visited c after (count + n) end done score (st .growing) (last-inside count k n inside) is top stored-most (st .visits 0 some ∙ visited .root)
+        touch-visited c after (count + n) end done score (st .growing) (last-inside count k n inside) is top stored-most (ap (λ (m : Node). m .visits) (st .kept 0 some) ∙ visited .root)
         (λ j a b e. seen j a b e (either (ltb j count)))
       where
         seen : (j : ℕ) → 0 < j → j < count + n → elem (pathOf after end 0) j ≡ false → (ltb j count ≡ true) ⊎ (ltb j count ≡ false)
             → T (le one (nodeAt after j .visits))
-        seen j a b e (inl t) = let l : j < count = ltb-true j count t in rw (st .visits j l) (visited .seen j a l)
+        seen j a b e (inl t) = let l : j < count = ltb-true j count t in rw (st .kept j l) (visited .seen j a l)
         seen j a b e (inr t) = absurd (true-false (sym (stored-path st j (ltb-false j count t) b) ∙ e))
 
     pub iterated-length : length (backOf after end 0 score) ≡ length nodes
