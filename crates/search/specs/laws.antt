@@ -18,5 +18,4 @@ pub mod Touched
 pub mod Iterate
 pub mod Path
 pub mod Search
-pub mod Links
 pub mod Storing

@@ -113,7 +113,7 @@ module _ {c : CraftContext} {s : CraftState} {nodes : List Node} {count k : ℕ}
         room = rw below-length (omega (arith, st .room));
         draws-left = omega (arith, st .draws-left);
         drawable = rw new-unused (drawable .1);
-        index = links-below nodes count k action (strictMoves c next) links (st .growing .tree) (st .inside) store-room (st .index);
+        index = rw add-one (links-below nodes count k action (strictMoves c next) links (st .inside) store-room (st .index));
       }
 
   -- what the whole path leaves, the rest leaves

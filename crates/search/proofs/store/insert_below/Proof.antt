@@ -7,7 +7,7 @@ use Rattle.tree.specs.declared.node.Node.{Node}
 use Rattle.tree.specs.Node.{nodeOf}
 use Rattle.tree.specs.Tree.{nodeAt}
 use Rattle.search.specs.Iterate.{drawnFrom, belowOf}
-use Rattle.walks.proofs.Walking.{_≡_, refl, sym, _∙_, subst, ℕ, _<_, arith, List, [], _∷_, tables, _$_, !, unit-lit, of-opd, no-more, cited, opd, _&_, sets, lands-in, returns, reborrows, then, calls-plain, of-shr, of-mut, slices-proved, again, shared, calls-slices}
+use Rattle.walks.proofs.Walking.{_≡_, refl, sym, _∙_, subst, ℕ, _<_, arith, List, [], _∷_, tables, _$_, !, unit-lit, of-opd, no-more, cited, opd, _&_, sets, lands-in, returns, reborrows, then, calls-plain, of-shr, of-mut, slices-proved, lend-mut, lend-shr, calls-slices}
 use Rattle.tree.proofs.Types.{node-at′, put-node′}
 use Rattle.tree.proofs.TypesGrow.{new′}
 use Rattle.search.proofs.TypesStore.{without′, link′, insert-below′}
@@ -46,15 +46,15 @@ insert-below-spec 𝓤 H 𝓜 𝓖 𝓡 =
     let moves : ℕ = a .1 .1 .1 .0 in
     let there : k < length ys = omega (arith, pre .0, pre .1) in
     reborrows ! (S .room .0) refl refl refl refl refl refl refl refl $
-    calls-slices ! 𝓣 (shared 0 S ys same ∷ []) (λ _. refl) then (of-shr node-at′) reads (k, tt) (are .1 .0, tt) there (λ _ _. opd ! refl & opd ! refl & no-more !) (λ n _ n-is n-ty _ n-said. lands-in ! refl (n-ty .0) $
+    calls-slices ! 𝓣 (lend-shr 0 S ys same ∷ []) (λ _. refl) then (of-shr node-at′) reads (k, tt) (are .1 .0, tt) there (λ _ _. opd ! refl & opd ! refl & no-more !) (λ n _ n-is n-ty _ n-said. lands-in ! refl (n-ty .0) $
     let known : SetIn (n .unused) = subst (λ (x : Node). SetIn (x .unused)) (sym n-said) (pre .2) in
     calls-plain ! 𝓣 then without′ takes (n, (action, tt)) (n-is, (are .1 .1 .0, tt)) (known, pre .3) (λ _. opd ! refl & opd ! refl & no-more !) (λ m m-is m-ty m-said. lands-in ! refl (m-ty .0) $
     reborrows ! (S .room .0) refl refl refl refl refl refl refl refl $
-    calls-slices ! 𝓣 (again 0 S ys same ∷ []) (λ _. refl) then (of-mut put-node′) puts (k, (m, tt)) (are .1 .0, (m-is, tt)) there (λ _ _. opd ! refl & opd ! refl & opd ! refl & no-more !) (λ _ z _ ty long put. lands-in ! refl (ty .0) $
+    calls-slices ! 𝓣 (lend-mut 0 S ys same ∷ []) (λ _. refl) then (of-mut put-node′) puts (k, (m, tt)) (are .1 .0, (m-is, tt)) there (λ _ _. opd ! refl & opd ! refl & opd ! refl & no-more !) (λ _ z _ ty long put. lands-in ! refl (ty .0) $
     calls-plain ! 𝓣 then new′ makes (a .1) (are .1) tt (λ _. opd ! refl & opd ! refl & opd ! refl & no-more !) (λ new new-is new-ty new-said. lands-in ! refl (new-ty .0) $
     reborrows ! (S .room .0) refl refl refl refl refl refl refl refl $
-    calls-slices ! 𝓣 (again 0 S (z .0) (long .0) ∷ []) (λ _. refl) then (of-mut put-node′) puts (count, (new, tt)) (are .0, (new-is, tt)) (omega (arith, pre .0, same, long .0)) (λ _ _. opd ! refl & opd ! refl & opd ! refl & no-more !) (λ _ z′ _ ty′ long′ put-new. lands-in ! refl (ty′ .0) $
+    calls-slices ! 𝓣 (lend-mut 0 S (z .0) (long .0) ∷ []) (λ _. refl) then (of-mut put-node′) puts (count, (new, tt)) (are .0, (new-is, tt)) (omega (arith, pre .0, same, long .0)) (λ _ _. opd ! refl & opd ! refl & opd ! refl & no-more !) (λ _ z′ _ ty′ long′ put-new. lands-in ! refl (ty′ .0) $
     reborrows ! (L .room .0) refl refl refl refl refl refl refl refl $
-    calls-slices ! 𝓣 (again 1 L ls same-l ∷ []) (λ _. refl) then (of-mut link′) links (k, (count, tt)) (are .1 .0, (are .0, tt)) (pre .4, pre .1) (λ _ _. opd ! refl & opd ! refl & opd ! refl & no-more !) (λ _ index _ ty″ long-l linked. lands-in ! refl (ty″ .0) $
+    calls-slices ! 𝓣 (lend-mut 1 L ls same-l ∷ []) (λ _. refl) then (of-mut link′) links (k, (count, tt)) (are .1 .0, (are .0, tt)) (pre .4, pre .1) (λ _ _. opd ! refl & opd ! refl & opd ! refl & no-more !) (λ _ index _ ty″ long-l linked. lands-in ! refl (ty″ .0) $
     sets ! (of-opd ! (unit-lit !)) refl (tt, tt) $ returns ! Q refl refl refl $
     return tt (z′ .0, (index .0, tt)) refl (long′ .0, (long-l .0, tt)) (below ys count k action moves n-said m-said put new-said put-new, linked))))))))
