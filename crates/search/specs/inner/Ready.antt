@@ -11,13 +11,10 @@ use Rattle.refusal.specs.declared.Refusal.{Refusal}
 use Rattle.refusal.specs.declared.Refusal.the-variants.{NoRoom}
 use Rattle.refusal.specs.declared.Checked.{Checked}
 use Rattle.refusal.specs.declared.Checked.the-variants as K
-use Rattle.laws.specs.Bits.{has}
-use Rattle.action_set.specs.Sets.{SetIn, sizeOf}
+use Rattle.action_set.specs.Sets.{sizeOf}
 use Rattle.craft_context.specs.declared.context.CraftContext.{CraftContext}
 use Rattle.craft_state.specs.declared.state.CraftState.{CraftState}
 use Rattle.craft_state.specs.Inside.{CraftIn}
-use Rattle.moves.specs.Modes.{plain}
-use Rattle.moves.specs.Moves.{movesOf}
 use Rattle.score.specs.declared.result.CraftResult.{CraftResult}
 use Rattle.rollout.specs.declared.rollout.Rolled.{Rolled}
 use Rattle.rollout.specs.declared.rollout.Rolled.the-variants as L
@@ -71,12 +68,6 @@ abbrev pub chosenOf : CraftContext → SearchOptions → List Float → List Nod
 chosenOf c o logs nodes count = record { at = selectOf o logs nodes count; state = stateAt c nodes (selectOf o logs nodes count) }
 
 -- ---- the plan of an iteration
-
--- the members of a set are moves of the state
-pub record Movable (c : CraftContext) (s : CraftState) (set : ℕ) : Type 0 where
-  pub inside : CraftIn c s
-  pub known : SetIn set
-  pub legal : (n : ℕ) → has set n ≡ true → has (movesOf c s plain) n ≡ true
 
 abbrev pub refusedPlan : Refusal → Plan
 refusedPlan x = record { checked = K.Refused x; stored = 0; score = plusZero; at = 0 }
