@@ -33,7 +33,7 @@ in-room-spec =
     (λ c κs. search needs)
     (λ c.
     let a = c .before .before .before .before .before .args in
-    c .refused .ensures ∙ room-short (a .count) (a .records) (a .result) (a .end) (a .stored) (c .before .before .before .before .check-room .ensures) (c .before .room .given .1))
+    c .refused .ensures ∙ room-short (a .count) (a .records) (a .result) (a .end) (a .stored) (c .before .before .before .before .check-room .ensures) (c .before .before .room .given .1))
     (λ c. search needs)
     (λ c κs. search needs)
     (λ c.
