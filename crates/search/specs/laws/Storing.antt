@@ -94,7 +94,7 @@ module _ {c : CraftContext} {s : CraftState} {nodes : List Node} {count k : ℕ}
 
   growing-next : Growing c after (count + 1)
   growing-next =
-      rw add-one
+      rw (add-one count)
       (subst (λ (s : CraftState). Growing c (belowOf nodes count k action (strictMoves c (executeOf c s action))) (suc count)) (sym (st .state))
       (below-growing c nodes count k action (st .growing) (st .inside) store-room named))
 
@@ -113,7 +113,7 @@ module _ {c : CraftContext} {s : CraftState} {nodes : List Node} {count k : ℕ}
         room = rw below-length (omega (arith, st .room));
         draws-left = omega (arith, st .draws-left);
         drawable = rw new-unused (drawable .1);
-        index = rw add-one (links-below nodes count k action (strictMoves c next) links (st .inside) store-room (st .index));
+        index = rw (add-one count) (links-below nodes count k action (strictMoves c next) links (st .inside) store-room (st .index));
       }
 
   -- what the whole path leaves, the rest leaves
