@@ -3,8 +3,6 @@ pub mod Options
 pub mod Taken
 pub mod Moves
 pub mod Below
-pub mod Visits
-pub mod Upward
 pub mod Stored
 pub mod Asked
 pub mod Planted

@@ -1,8 +1,10 @@
 pub mod Float
 pub mod Node
+pub mod Visits
 pub mod Nan
 pub mod Tree
 pub mod Climb
+pub mod Upward
 pub mod Back
 pub mod Children
 pub mod Yield

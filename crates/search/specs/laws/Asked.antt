@@ -1,7 +1,7 @@
 -- What a search rests on, as facts: a context inside the limits whose step_max is above 0, and options and logarithms that have passed the test of refusal 21.
 -- Assumes nothing.
 use mathlib.Core.Path.{_≡_}
-use mathlib.Core.Bool.{true, not, _&&_}
+use mathlib.Core.Bool.{true, not}
 use mathlib.Core.List.{List}
 use mathlib.Core.Logic.{⊎-elim}
 use Prim.Native.Nat.{ℕ, zero, suc, _≤_, _<_}

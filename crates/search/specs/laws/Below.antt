@@ -2,10 +2,10 @@
 -- the action at the new one.
 -- Assumes nothing.
 use mathlib.Core.Path.{_≡_, refl, sym, ap, _∙_}
-use mathlib.Core.Bool.{Bool, true, false, not, cond, _&&_, _||_}
+use mathlib.Core.Bool.{Bool, true, false, not, _&&_, _||_}
 use mathlib.Core.List.{List}
 use mathlib.Core.Logic.{⊎-elim}
-use Prim.Native.Nat.{ℕ, suc, _≤_, _<_}
+use Prim.Native.Nat.{ℕ, suc, _<_}
 use native.Mathlib.Nat.{le-refl}
 use native.Mathlib.Numerals.{add-one}
 use native.Mathlib.Omega.{arith}
@@ -32,7 +32,7 @@ use Rattle.tree.specs.laws.Node.{sound-parts, sound-of}
 use Rattle.tree.specs.laws.Tree.{last-or-below, tree-falls, inserted-sound}
 use Rattle.search.specs.Select.{stateAt}
 use Rattle.search.specs.Iterate.{drawnFrom, belowOf}
-use Rattle.search.specs.inner.Grown.{modeAt, movesIn, isTaken, Growing}
+use Rattle.search.specs.inner.Grown.{movesIn, isTaken, Growing}
 use Rattle.search.specs.laws.States.{Alike, state-below, state-alike}
 use Rattle.search.specs.laws.Taken.{taken-by, taken-none, taken-alike, moves-alike}
 use Rattle.search.specs.laws.Moves.{member-known, moves-set}

@@ -1,16 +1,14 @@
 -- A selected record without unused moves has no child either, so its state has no move: it has ended, or nothing is legal there.
 -- Assumes nothing.
 use mathlib.Core.Path.{_≡_, refl, sym, _∙_}
-use mathlib.Core.Bool.{Bool, true, false, not, cond, _&&_}
+use mathlib.Core.Bool.{Bool, true, false, _&&_}
 use mathlib.Core.List.{List}
-use Prim.Native.Nat.{ℕ, _^_, _≤_, _<_}
-use native.Mathlib.Omega.{arith}
-use lib.Dec.{eqb}
+use Prim.Native.Nat.{ℕ, _≤_, _<_}
 use lib.Ieee.{Float}
 use lib.Pow.{pow-pos}
 use borrow.Author.Tests.{eq-eqb}
 use Rattle.laws.specs.Bits.{has}
-use Rattle.laws.specs.laws.Bits.{has-high, same-members}
+use Rattle.laws.specs.laws.Bits.{same-members}
 use Rattle.laws.specs.laws.Tests.{and-true}
 use Rattle.action.specs.Known.{actions}
 use Rattle.craft_context.specs.declared.context.CraftContext.{CraftContext}
@@ -19,8 +17,8 @@ use Rattle.tree.specs.Tree.{nodeAt, isChild, bestBy}
 use Rattle.tree.specs.laws.Tree.{tree-falls}
 use Rattle.search.specs.declared.options.SearchOptions.{SearchOptions}
 use Rattle.search.specs.Options.{iterationsMost}
-use Rattle.search.specs.Select.{stateAt, rateAt, nextOf, selectOf}
-use Rattle.search.specs.inner.Grown.{modeAt, movesIn, isTaken, Growing, Visited}
+use Rattle.search.specs.Select.{stateAt, rateAt, selectOf}
+use Rattle.search.specs.inner.Grown.{modeAt, movesIn, Growing, Visited}
 use Rattle.search.specs.laws.Taken.{taken-childless}
 use Rattle.search.specs.laws.Moves.{moves-set}
 use Rattle.search.specs.laws.Asked.{Asked}

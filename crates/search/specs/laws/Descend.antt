@@ -1,8 +1,9 @@
--- The way down of `select`: the next record is a child, so it is above its parent and used; counted steps are enough, and it ends where there is no next record.
+-- The way down of `select`: the next record is a child, so it is above its parent and used; counted steps are enough, it ends where there is no next record, and
+-- the state goes along.
 -- Assumes nothing.
 use mathlib.Core.Path.{_≡_, refl, sym, ap, _∙_}
-use mathlib.Core.Bool.{Bool, true, false, not, cond, _&&_}
-use mathlib.Core.List.{List, [], _∷_}
+use mathlib.Core.Bool.{Bool, true, false, cond}
+use mathlib.Core.List.{List}
 use Prim.Native.Nat.{ℕ, zero, suc, _+_, _≤_, _<_}
 use native.Mathlib.Omega.{arith}
 use lib.Dec.{eqb, ltb}
@@ -139,9 +140,11 @@ module _ (c : CraftContext) (o : SearchOptions) (logs : List Float) (nodes : Lis
 
   pub next-state : stateAt c nodes child ≡ executeOf c (stateAt c nodes k) action
   next-state =
-      rw (next-parent o logs nodes count k some) at (state-below c nodes count (tree-falls (growing .tree)) child some (next-child o logs nodes count k some .0))
+      rw (next-parent o logs nodes count k some) at
+      (state-below c nodes count (tree-falls (growing .tree)) child some (next-child o logs nodes count k some .0))
 
   pub next-playable : ContextIn c → c .«step_max» ≤ stepMost
       → Playable c (stateAt c nodes k) action (attributesOf action) × RowBounds action (attributesOf action)
   next-playable context byte =
-      rw (next-parent o logs nodes count k some) at (grown-playable c nodes count growing context byte child some (next-child o logs nodes count k some .0))
+      rw (next-parent o logs nodes count k some) at
+      (grown-playable c nodes count growing context byte child some (next-child o logs nodes count k some .0))

@@ -2,17 +2,17 @@
 -- from -1 to 1; and it turns on no draw beyond those that it used.
 -- Assumes nothing.
 use mathlib.Core.Path.{_≡_, refl, sym, ap, subst, _∙_}
-use mathlib.Core.Bool.{Bool, true, false, cond, _&&_}
+use mathlib.Core.Bool.{Bool, true, false, cond}
 use mathlib.Core.List.{List, [], _∷_}
 use Prim.Native.Nat.{ℕ, zero, suc, _+_, _-_, _≤_, _<_}
 use native.Mathlib.Nat.{zero-add, suc-add}
 use native.Mathlib.Omega.{arith}
-use lib.Dec.{T, eqb, leb}
+use lib.Dec.{eqb, leb}
 use lib.Ieee.{Float, ofInt, lt, le, eq}
 use lib.Ieee.Bits.{is-true}
 use lib.ListN.{length, take, drop}
-use lib.Seq.{take-nil, drop-nil, take-take}
-use borrow.Author.Tests.{leb-true, le-leb, eqb-true, eqb-false}
+use lib.Seq.{take-nil, take-take}
+use borrow.Author.Tests.{leb-true, le-leb, eqb-false}
 use Rattle.laws.specs.Floats.{one, minusOne}
 use Rattle.laws.specs.laws.Order.{lt-le}
 use Rattle.laws.specs.laws.Tests.{and-both}
@@ -29,17 +29,18 @@ use Rattle.rollout.specs.laws.RolledSampled.{Rolls, rolled, sampled-length, sam
 use Rattle.tree.specs.declared.node.Node.{Node}
 use Rattle.tree.specs.Node.{plusZero, isScore}
 use Rattle.tree.specs.Tree.{maxAt}
+use Rattle.tree.specs.laws.Back.{touched-length}
 use Rattle.tree.specs.laws.Tree.{tree-falls}
 use Rattle.search.specs.declared.options.SearchOptions.{SearchOptions}
 use Rattle.search.specs.Options.{iterationsMost}
-use Rattle.search.specs.Iterate.{scoreIn, isWorth, storedOf, storeOf, lastStored, Growth, Turn, Goes, Stops}
-use Rattle.search.specs.Iterate.{selectedOf, selectedState, unusedOf, rolledOf, pathFrom, grownOf, roomFor, turnBy, iterateOf}
+use Rattle.search.specs.Iterate.{scoreIn, isWorth, storedOf, storeOf, Growth, Goes, Stops}
+use Rattle.search.specs.Iterate.{selectedOf, selectedState, unusedOf, rolledOf, pathFrom, grownOf, turnBy, iterateOf}
 use Rattle.search.specs.inner.Grown.{modeAt, Growing, Visited}
 use Rattle.search.specs.laws.Asked.{Asked}
 use Rattle.search.specs.laws.Legal.{unused-move, grown-timely}
 use Rattle.search.specs.laws.Descend.{selected-below}
 use Rattle.search.specs.laws.Stored.{Stored, stored}
-use Rattle.search.specs.laws.Touched.{iterated-reaches, iterated-growing, iterated-visited, iterated-length}
+use Rattle.search.specs.laws.Touched.{iterated}
 
 -- ---- the score that is propagated
 
@@ -112,7 +113,8 @@ pub record Goes-on (g next : Growth) : Type 0 where
   pub room : next .count ≤ length (g .nodes)
   pub later : g .at ≤ next .at
 
-module _ (c : CraftContext) (o : SearchOptions) (logs : List Float) (draws : List ℕ) (g : Growth) (done : ℕ) (asked : Asked c o logs) (grows : Grows c g done) where
+module _ (c : CraftContext) (o : SearchOptions) (logs : List Float) (draws : List ℕ) (g : Growth) (done : ℕ) (asked : Asked c o logs)
+    (grows : Grows c g done) where
   -- where it starts
   pub selected-inside : selectedOf c o logs draws g < g .count
   selected-inside = selected-below o logs (g .nodes) (g .count) (tree-falls (grows .growing .tree)) (grows .growing .tree .some)
@@ -151,17 +153,11 @@ module _ (c : CraftContext) (o : SearchOptions) (logs : List Float) (draws : Lis
             let within : n ≤ a .end - g .at = stored-most (isWorth (o .«score_storage_threshold») (maxAt (g .nodes) 0) (a .result)) (a .end - g .at) in
             let from : g .at ≤ a .end = rolls (a .rolls) .least in
             let st = iteration-stored (a .rolls) n (omega arith) (a .room) in
-            let score = propagated-score (a .rolls) in
-            rw (a .same)
-            (record {
-              growing = iterated-growing c (g .nodes) (g .count) _ n done _ (grows .visited) selected-inside st (grows .growing .tree .some) (omega arith) score;
-              visited = iterated-visited c (g .nodes) (g .count) _ n done _ (grows .visited) selected-inside st (grows .growing .tree .some) (omega arith) score;
-            }, record {
-              long = iterated-length c (g .nodes) (g .count) _ n done _ (grows .visited) selected-inside st (grows .growing .tree .some) (omega arith) score;
-              more = omega arith;
-              room = a .room;
-              later = from;
-            })
+            let t = iterated c (g .nodes) (g .count) _ n done _ (grows .visited) selected-inside st (omega arith) (propagated-score (a .rolls)) in
+            rw (a .same) (
+              record { growing = t .growing; visited = t .visited },
+              record { long = touched-length _ _ (scoreIn (a .result)) ∙ st .long; more = omega arith; room = a .room; later = from },
+            )
 
 -- ---- draws beyond those used change nothing
 

@@ -70,8 +70,8 @@ module _ (c : CraftContext) (nodes : List Node) (count : ℕ) (growing : Growing
         let p : ℕ = nodeAt nodes (suc k) .parent in
         let up : p < suc k = tree-falls (growing .tree) (suc k) (omega arith) h in
         rw (state-below c nodes count (tree-falls (growing .tree)) (suc k) (omega arith) h)
-        (legal-timely c byte (stateAt c nodes p) (timely-in steps p (omega arith) (omega arith)) attributesOf rows-bounded (modeAt p) (nodeAt nodes (suc k) .action)
-        (growing .legal (suc k) (omega arith) h))
+        (legal-timely c byte (stateAt c nodes p) (timely-in steps p (omega arith) (omega arith)) attributesOf rows-bounded (modeAt p)
+        (nodeAt nodes (suc k) .action) (growing .legal (suc k) (omega arith) h))
 
     pub grown-timely : (k : ℕ) → k < count → Timely c (stateAt c nodes k)
     grown-timely k h = timely-in k k (le-refl k) h

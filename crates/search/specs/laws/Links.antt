@@ -1,17 +1,15 @@
 -- The index of children: it holds of a planted tree, is kept where a record is stored and where floats change, and leads from child to child, newest first.
 -- Assumes nothing.
 use mathlib.Core.Path.{_≡_, refl, sym, ap, _∙_}
-use mathlib.Core.Bool.{Bool, true, false, not, cond, _&&_}
+use mathlib.Core.Bool.{Bool, true, false, cond}
 use mathlib.Core.List.{List}
 use mathlib.Core.Logic.{⊎-elim}
 use Prim.Native.Nat.{ℕ, zero, suc, _+_, _*_, _≤_, _<_}
-use native.Mathlib.Nat.{le-refl}
 use native.Mathlib.Omega.{arith}
-use lib.Dec.{eqb, ltb, lit≤}
+use lib.Dec.{eqb, ltb}
 use lib.ListN.{length, set, replicate, length-set, length-replicate, getD-replicate}
 use lib.Seq.{getD-set-same, getD-set-other}
-use borrow.Author.Tests.{lt-ltb, le-ltb, ltb-true, ltb-false, eq-eqb, ne-eqb, eqb-true, eqb-false}
-use Rattle.laws.specs.laws.Tests.{true-false, either}
+use borrow.Author.Tests.{le-ltb, ltb-true, ltb-false, ne-eqb, eqb-true, eqb-false}
 use Rattle.tree.specs.declared.node.Node.{Node}
 use Rattle.tree.specs.Tree.{nodeAt, isChild}
 use Rattle.tree.specs.laws.Tree.{last-or-below}
@@ -20,7 +18,6 @@ use Rattle.rates.specs.declared.Weights.{Weights}
 use Rattle.search.specs.inner.Newest.{betterNode, bestDown}
 use Rattle.search.specs.inner.Links.{linked, lastAt, olderAt, lastBelow, topOf, Links, linkOf}
 use Rattle.search.specs.Iterate.{belowOf}
-use Rattle.search.specs.laws.States.{Alike}
 use Rattle.search.specs.laws.Below.{below-new, below-alike}
 use Rattle.search.specs.laws.Newest.{down-child}
 
@@ -43,18 +40,7 @@ module _ (nodes : List Node) (parent : ℕ) where
       go true e some rest = (omega arith, e)
       go false e some rest = let r = rest some in (omega (arith, r .0), r .1)
 
-  -- and none is between it and record t
-  pub last-none : (t j : ℕ) → lastBelow t nodes parent < j → j < t → isChild j (nodeAt nodes j) parent ≡ false
-  unfolding lastBelow
-  last-none zero j a h = absurd (omega arith)
-  last-none (suc k) j a h = go (isChild k (nodeAt nodes k) parent) refl a (last-none k j)
-    where
-      go : (t : Bool) → isChild k (nodeAt nodes k) parent ≡ t → cond t k (lastBelow k nodes parent) < j
-          → (lastBelow k nodes parent < j → j < k → isChild j (nodeAt nodes j) parent ≡ false) → isChild j (nodeAt nodes j) parent ≡ false
-      go true e a rest = absurd (omega arith)
-      go false e a rest = ⊎-elim (λ q. rw q e) (λ l. rest a l) (last-or-below j k h)
-
-  -- so from record t on the best child is that from the last one on; where there is none record 0 is left, which is no child
+  -- none is between it and record t, so the best child is that from it on; where there is none record 0 is left, which is no child
   pub down-skips : (weights : Weights) (t : ℕ) (best : Best)
       → bestDown weights nodes parent t best ≡ bestDown weights nodes parent (lastBelow t nodes parent + 1) best
   unfolding lastBelow bestDown
@@ -87,8 +73,8 @@ links-none nodes n e =
       older = λ k some h. absurd (omega arith);
     }
 
-top-least : (count : ℕ) → topOf count ≤ count
-top-least count = go (ltb count linked) refl
+pub top-count : (count : ℕ) → topOf count ≤ count
+top-count count = go (ltb count linked) refl
   where
     go : (t : Bool) → ltb count linked ≡ t → cond t count linked ≤ count
     go true e = omega arith
@@ -100,10 +86,10 @@ pub links-alike : (nodes others : List Node) (count : ℕ) (links : List ℕ) �
 links-alike nodes others count links same l =
     record {
       room = l .room;
-      last = λ k h. l .last k h ∙ sym (last-alike nodes others (topOf count) k (λ j b. same j (omega (arith, top-least count))));
+      last = λ k h. l .last k h ∙ sym (last-alike nodes others (topOf count) k (λ j b. same j (omega (arith, top-count count))));
       older = λ k some h.
-          rw (same k (omega (arith, top-least count)))
-          (l .older k some h ∙ sym (last-alike nodes others k (nodeAt nodes k .parent) (λ j b. same j (omega (arith, top-least count)))));
+          rw (same k (omega (arith, top-count count)))
+          (l .older k some h ∙ sym (last-alike nodes others k (nodeAt nodes k .parent) (λ j b. same j (omega (arith, top-count count)))));
     }
 
 -- a record more, below its parent

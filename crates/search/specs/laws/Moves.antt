@@ -9,7 +9,6 @@ use Rattle.laws.specs.Bits.{has}
 use Rattle.laws.specs.laws.Bits.{has-high}
 use Rattle.laws.specs.laws.Tests.{true-false}
 use Rattle.action.specs.Known.{actions}
-use Rattle.action.specs.Table.{attributesOf}
 use Rattle.action_set.specs.Sets.{SetIn, keepOf}
 use Rattle.action_set.specs.laws.Sets.{set-inside}
 use Rattle.craft_context.specs.declared.context.CraftContext.{CraftContext}

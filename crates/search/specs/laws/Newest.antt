@@ -12,7 +12,7 @@ use native.Mathlib.Omega.{arith}
 use lib.Dec.{T, eqb, leb, ltb}
 use lib.Ieee.{Float, lt, le}
 use lib.Ieee.Scale.{finite}
-use borrow.Author.Tests.{ltb-true, lt-ltb, leb-true, leb-false, ne-eqb, eqb-false, not-true, not-false}
+use borrow.Author.Tests.{ltb-true, lt-ltb, leb-true, leb-false, ne-eqb, not-false}
 use Rattle.laws.specs.Lists.{elem}
 use Rattle.laws.specs.laws.Order.{le-same, lt-le, lt-after, lt-or-ge}
 use Rattle.laws.specs.laws.Tests.{true-false, both, and-both, either}
@@ -23,7 +23,7 @@ use Rattle.craft_context.specs.declared.context.CraftContext.{CraftContext}
 use Rattle.tree.specs.declared.node.Node.{Node}
 use Rattle.tree.specs.Tree.{nodeAt, isChild, childrenOf, yields, bestBy}
 use Rattle.tree.specs.inner.Sound.{SoundTree}
-use Rattle.tree.specs.laws.Best.{child-parent}
+use Rattle.tree.specs.laws.Best.{child-some, child-parent}
 use Rattle.tree.specs.laws.Children.{children-each}
 use Rattle.tree.specs.laws.Node.{holds}
 use Rattle.tree.specs.laws.Yield.{yields-before, yields-less, all-yield, first-best}
@@ -211,8 +211,7 @@ module _ (c : CraftContext) (o : SearchOptions) (logs : List Float) (asked : Ask
     (visited : Visited nodes count done) (few : done ≤ iterationsMost) (parent : ℕ) where
   rated-finite : (k : ℕ) → k < count → isChild k (nodeAt nodes k) parent ≡ true → T (finite (rateAt o logs nodes parent k))
   rated-finite k h is =
-      let some : k ≡ 0 → ⊥ = eqb-false k 0 (not-true (eqb k 0) (both (not (eqb k 0)) (eqb (nodeAt nodes k .parent) parent) is .0)) in
-      rw (child-parent k (nodeAt nodes k) parent is) at (child-finite nodes count done tree visited few k (omega arith) h c o logs asked)
+      rw (child-parent k (nodeAt nodes k) parent is) at (child-finite nodes count done tree visited few k (child-some k (nodeAt nodes k) parent is) h c o logs asked)
 
   pub rated-none : bestBy (rateAt o logs nodes parent) count nodes parent ≡ 0 → (k : ℕ) → k < count → isChild k (nodeAt nodes k) parent ≡ true → ⊥
   rated-none = picked-none (weightsOf o (lnOf logs (nodeAt nodes parent .visits))) nodes parent count rated-finite

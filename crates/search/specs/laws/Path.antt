@@ -1,12 +1,12 @@
 -- THE theorem of the path: from the records of a search, a plain replay executes the actions of `solution` whole, and comes to the state at the last record.
 -- Assumes nothing.
-use mathlib.Core.Path.{_≡_, refl, sym, ap, subst, _∙_}
+use mathlib.Core.Path.{_≡_, refl, sym, ap, _∙_}
 use mathlib.Core.Bool.{true}
 use mathlib.Core.List.{List, [], _∷_}
 use Prim.Native.Nat.{ℕ, zero, suc, _≤_, _<_}
 use native.Mathlib.Nat.{le-refl, le-antisymm}
 use native.Mathlib.Omega.{arith}
-use lib.ListN.{length, take}
+use lib.ListN.{length}
 use lib.Seq.{take-length}
 use Rattle.laws.specs.Bits.{has}
 use Rattle.action.specs.Table.{attributesOf}
@@ -22,11 +22,11 @@ use Rattle.moves.specs.Moves.{movesOf}
 use Rattle.moves.specs.laws.Moves.{legal-known}
 use Rattle.simulator.specs.declared.replay.Replay.{Replay}
 use Rattle.simulator.specs.Replay.{replayOf}
-use Rattle.simulator.specs.Promise.{after, EachLegal, Longest, PromiseBy}
+use Rattle.simulator.specs.Promise.{after, EachLegal, PromiseBy}
 use Rattle.simulator.specs.inner.Known.{AllKnown}
 use Rattle.simulator.specs.laws.Promise.{promised}
 use Rattle.tree.specs.declared.node.Node.{Node}
-use Rattle.tree.specs.Tree.{nodeAt, isChild, bestOf, onward, descentIn, actionsOf, lastOf, solutionOf, endOf}
+use Rattle.tree.specs.Tree.{nodeAt, bestOf, onward, descentIn, actionsOf, lastOf, solutionOf, endOf}
 use Rattle.tree.specs.laws.Best.{child-parent, best-listed}
 use Rattle.tree.specs.laws.Tree.{tree-falls}
 use Rattle.search.specs.Select.{stateAt}
@@ -55,15 +55,16 @@ module _ (c : CraftContext) (nodes : List Node) (count : ℕ) (growing : Growing
       plain-part c (stateAt c nodes k) k (nodeAt nodes b .action) (rw e at (growing .legal b some h)) in
       ((legal, rw next (rest .0)), ap (λ (s : CraftState). after attributesOf c s (actionsOf nodes path)) next ∙ rest .1)
 
-  leads-down : (steps k : ℕ)
-      → Leads c (stateAt c nodes k) (actionsOf nodes (descentIn steps nodes count k)) (stateAt c nodes (lastOf k (descentIn steps nodes count k)))
+  -- from record k on along these records
+  abbrev LeadsBy : ℕ → List ℕ → Type 0
+  LeadsBy k path = Leads c (stateAt c nodes k) (actionsOf nodes path) (stateAt c nodes (lastOf k path))
+
+  leads-down : (steps k : ℕ) → LeadsBy k (descentIn steps nodes count k)
   unfolding descentIn EachLegal after
   leads-down zero k = (tt, refl)
   leads-down (suc steps) k = go (bestOf count nodes k) refl (leads-down steps)
     where
-      go : (b : ℕ) → bestOf count nodes k ≡ b
-          → ((b : ℕ) → Leads c (stateAt c nodes b) (actionsOf nodes (descentIn steps nodes count b)) (stateAt c nodes (lastOf b (descentIn steps nodes count b))))
-          → Leads c (stateAt c nodes k) (actionsOf nodes (onward b (descentIn steps nodes count))) (stateAt c nodes (lastOf k (onward b (descentIn steps nodes count))))
+      go : (b : ℕ) → bestOf count nodes k ≡ b → ((b : ℕ) → LeadsBy b (descentIn steps nodes count b)) → LeadsBy k (onward b (descentIn steps nodes count))
       go zero e rest = (tt, refl)
       go (suc b) e rest =
           let child = rw e at (best-listed nodes count k (omega (arith, e))) in

@@ -1,7 +1,7 @@
 -- A search starts with the records of a search, and no iteration done.
 -- Assumes nothing.
-use mathlib.Core.Path.{_≡_, refl, sym}
-use mathlib.Core.Bool.{true, not, _&&_}
+use mathlib.Core.Path.{_≡_, sym}
+use mathlib.Core.Bool.{not, _&&_}
 use mathlib.Core.List.{List}
 use Prim.Native.Nat.{ℕ, _<_}
 use native.Mathlib.Omega.{arith}
@@ -13,7 +13,6 @@ use borrow.Author.Tests.{lt-ltb}
 use Rattle.laws.specs.Bits.{has}
 use Rattle.laws.specs.Floats.{float}
 use Rattle.laws.specs.laws.Tests.{and-true}
-use Rattle.action.specs.Known.{actions}
 use Rattle.craft_context.specs.declared.context.CraftContext.{CraftContext}
 use Rattle.craft_state.specs.Start.{startOf}
 use Rattle.moves.specs.Moves.{movesOf}
@@ -23,11 +22,10 @@ use Rattle.tree.specs.Node.{rootNode}
 use Rattle.tree.specs.Refusals.{newCount}
 use Rattle.tree.specs.Tree.{noNode, nodeAt, plantedOf}
 use Rattle.tree.specs.laws.Tree.{planted-sound}
-use Rattle.search.specs.Select.{stateAt}
 use Rattle.search.specs.inner.Grown.{movesIn, isTaken, Growing, Visited}
 use Rattle.search.specs.laws.States.{state-root}
 use Rattle.search.specs.laws.Moves.{moves-set}
-use Rattle.search.specs.laws.Visits.{float-rises}
+use Rattle.tree.specs.laws.Visits.{float-rises}
 
 module _ (c : CraftContext) (nodes : List Node) (some : 0 < length nodes) where
   abbrev moves : ℕ

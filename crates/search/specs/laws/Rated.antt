@@ -1,11 +1,11 @@
 -- The numbers that a child is picked by: in the records of a search they are fair, so its ucb1 is finite; its parent was visited, so the logarithm is in the
 -- table.
 -- Assumes nothing.
-use mathlib.Core.Path.{_≡_, refl, sym, ap, _∙_}
-use mathlib.Core.Bool.{Bool, true, false, not, _&&_}
+use mathlib.Core.Path.{_≡_, refl}
+use mathlib.Core.Bool.{true, false, not, _&&_}
 use mathlib.Core.List.{List}
 use mathlib.Core.Logic.{⊎-elim}
-use Prim.Native.Nat.{ℕ, zero, suc, _+_, _-_, _≤_, _<_}
+use Prim.Native.Nat.{ℕ, zero, suc, _-_, _≤_, _<_}
 use native.Mathlib.Omega.{arith}
 use lib.Dec.{T, eqb}
 use lib.Ieee.{Float, le, toUnsigned}
@@ -25,11 +25,11 @@ use Rattle.tree.specs.inner.Sound.{SoundTree}
 use Rattle.tree.specs.laws.Node.{holds, Parts, sound-parts}
 use Rattle.tree.specs.laws.Tree.{tree-falls}
 use Rattle.search.specs.declared.options.SearchOptions.{SearchOptions}
-use Rattle.search.specs.Options.{iterationsMost, isLog}
+use Rattle.search.specs.Options.{iterationsMost}
 use Rattle.search.specs.Select.{lnOf, rateAt}
 use Rattle.search.specs.inner.Grown.{Visited}
 use Rattle.search.specs.laws.Asked.{Asked}
-use Rattle.search.specs.laws.Visits.{float-rises, count-finite, count-at-least, count-at-most}
+use Rattle.tree.specs.laws.Visits.{float-rises, count-finite, count-at-least, count-at-most}
 
 maximum-between : (x : Float) → isMaximum x ≡ true → T (le plusZero x && le x one)
 unfolding isMaximum
@@ -68,9 +68,10 @@ module _ (nodes : List Node) (count done : ℕ) (tree : SoundTree nodes count) (
         other e = let apart : parent ≡ 0 → ⊥ = eqb-false parent 0 e in visited .seen parent (omega arith) below
 
     pub parent-counted : (0 < toUnsigned 64 (nodeAt nodes parent .visits)) × (toUnsigned 64 (nodeAt nodes parent .visits) ≤ iterationsMost)
-    parent-counted =
-        (count-at-least _ (parts parent below .count) parent-visited,
-        omega (arith, count-at-most _ (parts parent below .count) done (omega arith) (visited .most parent below)))
+    parent-counted = (
+      count-at-least _ (parts parent below .count) parent-visited,
+      omega (arith, count-at-most _ (parts parent below .count) done (omega arith) (visited .most parent below)),
+    )
 
     module _ (c : CraftContext) (o : SearchOptions) (logs : List Float) (asked : Asked c o logs) where
       -- its logarithm is in the table

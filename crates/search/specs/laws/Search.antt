@@ -2,7 +2,7 @@
 -- executed whole by a plain replay, whose state is the one answered; a refused search is the one of the iterations before; and draws beyond the used ones
 -- change nothing.
 -- Assumes nothing.
-use mathlib.Core.Path.{_≡_, refl, sym, ap, subst, _∙_}
+use mathlib.Core.Path.{_≡_, refl, sym, ap, _∙_}
 use mathlib.Core.List.{List}
 use Prim.Native.Nat.{ℕ, zero, suc, _+_, _-_, _≤_, _<_}
 use native.Mathlib.Nat.{le-refl}
@@ -159,4 +159,5 @@ module _ (c : CraftContext) (o : SearchOptions) (logs : List Float) (asked : Ask
       → take (growOf c o logs draws nodes .growth .at) others ≡ take (growOf c o logs draws nodes .growth .at) draws
       → growOf c o logs others nodes ≡ growOf c o logs draws nodes
   search-draws nodes some passed same =
-      grow-draws (o .iterations) (startGrowth c o logs draws nodes) 0 (start-grows c o logs asked draws nodes some) (omega (arith, asked .iterations)) passed same
+      grow-draws (o .iterations) (startGrowth c o logs draws nodes) 0 (start-grows c o logs asked draws nodes some) (omega (arith, asked .iterations)) passed
+      same

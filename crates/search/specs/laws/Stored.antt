@@ -2,13 +2,13 @@
 -- new ones are a chain that was never visited, all of it on the way from its last record up to record 0.
 -- Assumes nothing.
 use mathlib.Core.Path.{_≡_, refl, sym, ap, subst, _∙_}
-use mathlib.Core.Bool.{Bool, true, false, cond}
+use mathlib.Core.Bool.{true}
 use mathlib.Core.List.{List, [], _∷_}
 use mathlib.Core.Logic.{⊎-elim}
 use Prim.Native.Nat.{ℕ, zero, suc, _+_, _-_, _≤_, _<_}
-use native.Mathlib.Nat.{add-zero, add-suc, suc-add}
+use native.Mathlib.Nat.{add-zero}
 use native.Mathlib.Omega.{arith}
-use lib.Dec.{eqb, eqb·suc-zero}
+use lib.Dec.{eqb·suc-zero}
 use lib.ListN.{length}
 use Rattle.laws.specs.Bits.{has}
 use Rattle.laws.specs.Lists.{elem}
@@ -17,16 +17,15 @@ use Rattle.craft_state.specs.declared.state.CraftState.{CraftState}
 use Rattle.step.specs.Step.{executeOf}
 use Rattle.moves.specs.Moves.{movesOf}
 use Rattle.moves.specs.Modes.{strict}
-use Rattle.rollout.specs.Rollout.{strictMoves}
 use Rattle.rollout.specs.laws.RolledSampled.{Sampled}
 use Rattle.tree.specs.declared.node.Node.{Node}
-use Rattle.tree.specs.Node.{plusZero}
-use Rattle.tree.specs.Tree.{nodeAt, Falls, pathOf}
+use Rattle.tree.specs.Node.{plusZero, nodeOf}
+use Rattle.tree.specs.Tree.{nodeAt, pathOf}
 use Rattle.tree.specs.laws.Tree.{last-or-below, tree-falls}
 use Rattle.search.specs.Select.{stateAt}
 use Rattle.search.specs.Iterate.{belowOf, storeOf, lastStored}
 use Rattle.search.specs.inner.Grown.{Growing}
-use Rattle.search.specs.laws.Upward.{path-starts, path-longer}
+use Rattle.tree.specs.laws.Upward.{path-starts, path-longer}
 use Rattle.search.specs.laws.Below.{leftWith, below-length, below-new, below-kept, below-state, below-growing}
 
 -- n records more, below record k
@@ -77,12 +76,18 @@ module _ (c : CraftContext) where
         shift : (i : ℕ) → count + suc i ≡ suc count + i
         shift i = omega arith
 
+        moves : ℕ
+        moves = movesOf c (executeOf c (stateAt c nodes k) action) strict
+
+        first : nodeAt after (count + 0) ≡ leftWith (nodeOf k action moves) (nodeAt after (count + 0) .unused)
+        first = rw add-zero (rw (below-new nodes count k action moves inside room) at (rest .kept count (omega arith)))
+
         fresh : (i : ℕ) → i < suc n → nodeAt after (count + i) .visits ≡ plusZero
-        fresh zero h = rw add-zero (ap (λ (m : Node). m .visits) (rest .kept count (omega arith)) ∙ ap (λ (m : Node). m .visits) (below-new nodes count k action _ inside room))
+        fresh zero h = ap (λ (m : Node). m .visits) first
         fresh (suc i) h = rw (shift i) (rest .fresh i (omega arith))
 
         chain : (i : ℕ) → i < suc n → nodeAt after (count + i) .parent ≡ lastStored count k i
-        chain zero h = rw add-zero (ap (λ (m : Node). m .parent) (rest .kept count (omega arith)) ∙ ap (λ (m : Node). m .parent) (below-new nodes count k action _ inside room))
+        chain zero h = ap (λ (m : Node). m .parent) first
         chain (suc i) h = ap (λ (j : ℕ). nodeAt after j .parent) (shift i) ∙ rest .chain i (omega arith) ∙ last-more count k i
 
   -- THE law of what is stored

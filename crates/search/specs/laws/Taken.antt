@@ -10,16 +10,13 @@ use native.Mathlib.Nat.{le-refl}
 use native.Mathlib.Omega.{arith}
 use lib.Dec.{eqb}
 use borrow.Author.Tests.{eq-eqb, ne-eqb}
-use Rattle.laws.specs.Bits.{has}
 use Rattle.laws.specs.laws.Tests.{and-false, or-true}
 use Rattle.craft_context.specs.declared.context.CraftContext.{CraftContext}
-use Rattle.moves.specs.Moves.{movesOf}
 use Rattle.tree.specs.declared.node.Node.{Node}
 use Rattle.tree.specs.Tree.{nodeAt, isChild, Falls}
 use Rattle.tree.specs.inner.Sound.{SoundTree}
 use Rattle.tree.specs.laws.Tree.{last-or-below, tree-falls}
-use Rattle.search.specs.Select.{stateAt}
-use Rattle.search.specs.inner.Grown.{modeAt, movesIn, isTaken, Growing}
+use Rattle.search.specs.inner.Grown.{movesIn, isTaken, Growing}
 use Rattle.search.specs.laws.States.{Alike, state-alike}
 
 -- a child's action is taken
@@ -69,7 +66,8 @@ module _ (c : CraftContext) (nodes others : List Node) (count : ℕ) (growing : 
         legal = λ k some h. rw (alike .parent k h, alike .action k h, moves-alike c nodes others count falls alike (nodeAt nodes k .parent) (below k some h))
             (growing .legal k some h);
         left = λ k h n l.
-            rw (unused k h, moves-alike c nodes others count falls alike k h, taken-alike nodes others count alike count k n (le-refl count)) (growing .left k h n l);
+            rw (unused k h, moves-alike c nodes others count falls alike k h, taken-alike nodes others count alike count k n (le-refl count))
+            (growing .left k h n l);
         once = λ j k a b i l p q. growing .once j k a b i l (sym (alike .parent j b) ∙ p ∙ alike .parent k l) (sym (alike .action j b) ∙ q ∙ alike .action k l);
       }
     where

@@ -90,7 +90,7 @@ best-child (suc m) nodes parent some =
 
 -- ---- the best child among the first records
 
-child-some : (k : ℕ) (n : Node) (parent : ℕ) → isChild k n parent ≡ true → 0 < k
+pub child-some : (k : ℕ) (n : Node) (parent : ℕ) → isChild k n parent ≡ true → 0 < k
 child-some k n parent e = let other : k ≡ 0 → ⊥ = eqb-false k 0 (not-true (eqb k 0) (both (not (eqb k 0)) _ e .0)) in omega arith
 
 no-better : (best : Best) (n : Node) → isBetter best n ≡ false → (0 < best .at) × (le (best .«max_score») (n .«max_score») ≡ false)

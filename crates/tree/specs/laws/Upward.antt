@@ -1,9 +1,9 @@
 -- The way up from a record to record 0: record 0 is above every record, and what is on the way from a record's parent is on its own.
 -- Assumes nothing.
 use mathlib.Core.Path.{_≡_, refl}
-use mathlib.Core.Bool.{Bool, true, false, cond, _||_}
-use mathlib.Core.List.{List, [], _∷_}
-use Prim.Native.Nat.{ℕ, zero, suc, _+_, _≤_, _<_}
+use mathlib.Core.Bool.{true}
+use mathlib.Core.List.{List}
+use Prim.Native.Nat.{ℕ, zero, suc, _≤_, _<_}
 use native.Mathlib.Nat.{le-refl}
 use native.Mathlib.Omega.{arith}
 use lib.Dec.{eqb, eqb·suc-zero}
@@ -11,10 +11,10 @@ use lib.ListN.{length}
 use borrow.Author.Tests.{eq-eqb}
 use Rattle.laws.specs.Lists.{elem}
 use Rattle.laws.specs.laws.Tests.{or-true}
 use Rattle.tree.specs.declared.node.Node.{Node}
 use Rattle.tree.specs.Tree.{nodeAt, Falls, aboveIn, isAbove, pathIn, pathOf}
-use Rattle.tree.specs.inner.Back.{Climbs, Reaches}
+use Rattle.tree.specs.inner.Back.{Reaches}
 use Rattle.tree.specs.laws.Climb.{path-up, path-reaches}
 
 -- a path begins with the record that it starts from
 pub path-starts : (nodes : List Node) (k target : ℕ) → elem (pathOf nodes k target) k ≡ true

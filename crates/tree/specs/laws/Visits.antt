@@ -3,7 +3,7 @@
 use mathlib.Core.Path.{_≡_, refl, ap, _∙_}
 use mathlib.Core.Bool.{Bool, true, false, _&&_}
 use Prim.Native.Nat.{ℕ, zero, suc, _+_, _*_, _≤_, _<_}
-use native.Mathlib.Nat.{le-of-eq, mul-one}
+use native.Mathlib.Nat.{mul-one}
 use native.Mathlib.Omega.{arith}
 use lib.Dec.{T, lit≤, le→leb}
 use lib.Ieee.{Float, nan, inf, fin, up, binary32, ofInt, add, lt, le, eq, toUnsigned, inFloat}
@@ -17,10 +17,10 @@ use Rattle.laws.specs.laws.Tests.{both}
 use Rattle.laws.specs.laws.Small.{Small, small-finite, of-nat-value, truncated-small}
 use Rattle.laws.specs.laws.Order.{le-through}
 use Rattle.laws.specs.laws.AtLeast.{small-to}
 use Rattle.tree.specs.Node.{plusZero, visitsMost, countMost}
 use Rattle.tree.specs.Sound.{isCount, isWhole}
-use Rattle.tree.specs.laws.Float.{zero-small, count-small, count-more, zero-value, one-value}
+use Rattle.tree.specs.laws.Float.{zero-small, count-small, count-more, zero-value}
 use Rattle.tree.specs.laws.Node.{holds, count-equals, float-count}
 
 -- ---- whole numbers
 
