@@ -95,7 +95,7 @@ Drawable c s set (suc n) (d ∷ draws) = (d < sizeOf set) × Drawable c (drawnSt
 
 pub record Storing (c : CraftContext) (s : CraftState) (nodes : List Node) (count k : ℕ) (links draws : List ℕ) (at stored : ℕ) : Type 0 where
   pub growing : Growing c nodes count
-  pub byte : (j : ℕ) → j < count → CraftIn c (stateAt c nodes j)
+  pub craft : CraftIn c s
   pub inside : k < count
   pub state : s ≡ stateAt c nodes k
   pub room : count + stored ≤ length nodes
