@@ -1,6 +1,6 @@
 //! Trees over lent records: each function, each refusal at its boundary, and what the records and the room hold then.
 
-use brothlantern::tree::{backpropagate, children, insert, new, solution, Node, Solution};
+use brothlantern::tree::{self, backpropagate, children, insert, solution, Node, Solution};
 use brothlantern::Refusal;
 use std::fmt::Debug;
 
@@ -53,7 +53,7 @@ fn refusal<T: Debug>(
 #[test]
 fn starts() {
     let mut nodes = grown();
-    assert_eq!(new(&mut nodes[..1], ALL_MOVES), Ok(1));
+    assert_eq!(tree::new(&mut nodes[..1], ALL_MOVES), Ok(1));
     let mut wanted = grown();
     wanted[0] = node(0, 31, ALL_MOVES);
     assert_same(nodes, wanted);
@@ -61,7 +61,8 @@ fn starts() {
 
 #[test]
 fn refuses_to_start() {
-    let of = |length: usize, unused| refusal(grown(), |nodes| new(&mut nodes[..length], unused));
+    let of =
+        |length: usize, unused| refusal(grown(), |nodes| tree::new(&mut nodes[..length], unused));
     assert_eq!(of(0, ALL_MOVES), Refusal::NoRoom { needed: 1 });
     assert_eq!(of(0, 1 << 31), Refusal::OutsideLimits);
     assert_eq!(of(5, u32::MAX), Refusal::OutsideLimits);
