@@ -113,7 +113,7 @@ fn scan(nodes: &mut [Node]) -> f64 {
     time_of(UNKNOWN_NODE, || propagate(nodes, RECORDS, 0.0))
 }
 
-/// From `start` up to record 0. Answers the number of a refusal.
+/// From `start` up to record 0. Answers 0, or the number of a refusal.
 fn propagate(nodes: &mut [Node], start: usize, score: f32) -> u64 {
     let answer = backpropagate(nodes, RECORDS, start, 0, score);
     answer.map_or_else(|refusal| refusal.number().into(), |()| SUCCESS)

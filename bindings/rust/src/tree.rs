@@ -34,8 +34,8 @@ pub struct Node {
     pub score_sum: f32,
     /// From +0 to 1, and not minus zero.
     pub max_score: f32,
-    /// The moves not drawn from the record yet, bit n for action n, which is for the caller to keep: bit 31 is clear, and
-    /// no more is asked.
+    /// The moves not drawn from the record yet, bit n for action n: bit 31 is clear, and no more is asked. They are the
+    /// caller's to keep: the functions write those of a new record alone.
     pub unused: u32,
 }
 
