@@ -1,10 +1,11 @@
 -- Document 01, "Action table": a set is 31 bits, bit n for action n; its size and its highest member come from counts of its bits, and an
--- empty set has no highest. "Limits": bit 31 of every set is clear.
+-- empty set has no highest. "Limits": bit 31 of every set is clear. Document 02, E7, "each the nth that `random_index` would take": what a draw names.
 -- Assumes nothing.
 use mathlib.Core.Bool.{Bool, cond}
 use mathlib.Core.List.{List, [], _∷_}
 use Prim.Native.Nat.{ℕ, zero, suc, _^_, _<_}
 use lib.Dec.{ltb}
+use lib.ListN.{getD}
 use Rattle.laws.specs.Bits.{has, collect, withBit, withoutBit, keepBits, count, highestBelow}
 use Rattle.refusal.specs.Judge.{Test}
 use Rattle.refusal.specs.declared.Refusal.the-variants.{OutsideLimits}
@@ -49,3 +50,12 @@ upward (suc left) m p = cond (p m) (m ∷ upward left (suc m) p) (upward left (s
 
 abbrev pub membersOf : ℕ → List ℕ
 membersOf s = upward actions 0 (has s)
+
+-- the numbers below w for which p holds, in falling order
+unfoldable pub downward : ℕ → (ℕ → Bool) → List ℕ
+downward zero p = []
+downward (suc w) p = cond (p w) (w ∷ downward w p) (downward w p)
+
+-- the member that draw n names: the highest for 0, and n members are above it
+abbrev pub nthOf : ℕ → ℕ → ℕ
+nthOf s n = getD (downward actions (has s)) n 0

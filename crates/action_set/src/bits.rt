@@ -7,7 +7,7 @@ ghost use Rattle.laws.specs.Bits.{has};
 ghost use Rattle.laws.specs.inner.Bits.{Member, Top};
 ghost use Rattle.text.specs.Over.{Put};
 ghost use Rattle.action.specs.Known.{actions, knownFront};
-ghost use Rattle.action_set.specs.Sets.{SetIn, withOf, withoutOf, keepOf, sizeOf, setOf, membersOf};
+ghost use Rattle.action_set.specs.Sets.{SetIn, withOf, withoutOf, keepOf, sizeOf, setOf, membersOf, nthOf};
 use action::ACTIONS;
 
 pub fn bit(n: u8) -> u32
@@ -51,6 +51,20 @@ pub fn top(s: u32) -> u8
     ensures { λ r. ⌜ Top s r ⌝ }
 {
     (31 - u32::leading_zeros(s)) as u8
+}
+
+// The member that draw n names: the members above it are taken off, and it is the highest of the rest.
+pub fn nth(s: u32, n: u8) -> u8
+    requires { ⌜ SetIn s × (n < sizeOf s) ⌝ }
+    ensures { λ r. ⌜ r ≡ nthOf s n ⌝ }
+{
+    let mut remaining = s;
+    let mut above = n;
+    while above != 0 {
+        remaining -= bit(top(remaining));
+        above -= 1;
+    }
+    top(remaining)
 }
 
 // The member that a walk takes next: which one decides the walk's direction, and no answer.

@@ -63,3 +63,6 @@ answered = record { told = reportIn; refused = refusedOf; refusing = readable }
     readable X.VisitsFull = refl
     readable X.MalformedLine = refl
     readable X.TooLong = refl
+    readable X.NoDraw = refl
+    readable X.DrawTooHigh = refl
+    readable X.BadSearch = refl

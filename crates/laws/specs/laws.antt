@@ -13,4 +13,5 @@ pub mod NoNan
 pub mod Order
 pub mod Monotone
 pub mod Within
+pub mod AtLeast
 pub mod Floats

@@ -1,4 +1,5 @@
--- Document 01, 'What comes back on refusal': the table's numbers, and what is also returned.
+-- Document 01, 'What comes back on refusal': the table's numbers, and what is also returned. Document 02, E7: "19 draws used up, 20 draw not
+-- below the size, 21" for a search whose logarithms or options are outside their limits.
 -- Assumes nothing.
 use Prim.Native.Nat.{ℕ}
 use Rattle.refusal.specs.declared.Refusal.{Refusal}
@@ -30,3 +31,6 @@ reportOf R.BadScore = bare 10
 reportOf R.VisitsFull = bare 11
 reportOf R.MalformedLine = bare 12
 reportOf R.TooLong = bare 13
+reportOf R.NoDraw = bare 19
+reportOf R.DrawTooHigh = bare 20
+reportOf R.BadSearch = bare 21

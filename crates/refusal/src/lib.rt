@@ -1,4 +1,4 @@
-// The refusals of the whole engine, by document 01's numbers, and the tests that end in one.
+// The refusals of the whole engine, by the numbers of documents 01 and 02, and the tests that end in one.
 ghost use mathlib.Core.Path.{_≡_};
 ghost use Rattle.refusal.specs.Report.{reportOf};
 ghost use Rattle.refusal.specs.Judge.{checkedOf, roomTest, sizeTest};
@@ -25,6 +25,12 @@ pub enum Refusal {
     MalformedLine,
     // A program's input, or a list to write as text or to time, is above `SIZE_MOST`.
     TooLong,
+    // A draw is wanted, and none is left.
+    NoDraw,
+    // A draw is not below the size of the set that it is to name a member of.
+    DrawTooHigh,
+    // The options of a search, or its logarithms, are outside their limits.
+    BadSearch,
 }
 
 // What also comes back with a refusal.
@@ -33,7 +39,7 @@ pub enum Also {
     Value(usize),
 }
 
-// Document 01's number, 0 for no refusal, and what also comes back.
+// Its number, 0 for no refusal, and what also comes back.
 pub struct Report(pub u8, pub Also);
 
 impl Refusal {
@@ -54,6 +60,9 @@ impl Refusal {
             Refusal::VisitsFull => Report(11, Nothing),
             Refusal::MalformedLine => Report(12, Nothing),
             Refusal::TooLong => Report(13, Nothing),
+            Refusal::NoDraw => Report(19, Nothing),
+            Refusal::DrawTooHigh => Report(20, Nothing),
+            Refusal::BadSearch => Report(21, Nothing),
         }
     }
 }

@@ -5,4 +5,5 @@ mod scoring;
 pub use result::CraftResult;
 pub use result::check_result;
 pub use result::judge;
-pub use scoring::score;
+pub use result::judge_single;
+pub use scoring::score_single;

@@ -3,6 +3,7 @@ ghost use mathlib.Core.Path.{_≡_};
 ghost use Rattle.craft_state.specs.Inside.{CraftIn};
 ghost use Rattle.score.specs.Result.{judgedBy, resultOf, ScoreIsNumber};
 use super::scoring::score;
+use super::scoring::score_single;
 use craft_context::CraftContext;
 use craft_state::CraftState;
 use moves::Mode;
@@ -17,7 +18,7 @@ pub enum CraftResult {
     Continuing,
 }
 
-// By the state's legal moves.
+// By the state's legal moves. For the loop of replay alone, as `step::execute`.
 pub fn judge(context: CraftContext, state: CraftState, moves: u32) -> CraftResult
     requires { ⌜ CraftIn context state ⌝ }
     ensures { λ r. ⌜ (r ≡ judgedBy context state moves) × ScoreIsNumber r ⌝ }
@@ -39,10 +40,32 @@ pub fn judge(context: CraftContext, state: CraftState, moves: u32) -> CraftResul
     CraftResult::Continuing
 }
 
+// The same for every other caller.
+pub fn judge_single(context: CraftContext, state: CraftState, moves: u32) -> CraftResult
+    requires { ⌜ CraftIn context state ⌝ }
+    ensures { λ r. ⌜ (r ≡ judgedBy context state moves) × ScoreIsNumber r ⌝ }
+{
+    let is_worn = state.durability <= 0;
+    let is_late = state.step >= context.step_max;
+    if state.progress >= context.progress_target {
+        return CraftResult::Finished(score_single(context, state));
+    }
+    if is_worn {
+        return CraftResult::DurabilityFailure;
+    }
+    if is_late {
+        return CraftResult::MaxStepsFailure;
+    }
+    if moves == 0 {
+        return CraftResult::InvalidActionFailure;
+    }
+    CraftResult::Continuing
+}
+
 // The moves are worked out anew, in the mode of the call.
 pub fn check_result(context: CraftContext, state: CraftState, mode: Mode) -> CraftResult
     requires { ⌜ CraftIn context state ⌝ }
     ensures { λ r. ⌜ (r ≡ resultOf context state mode) × ScoreIsNumber r ⌝ }
 {
-    judge(context, state, moves::legal_moves(context, state, mode))
+    judge_single(context, state, moves::legal_moves(context, state, mode))
 }

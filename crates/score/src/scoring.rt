@@ -71,8 +71,19 @@ fn weighed(context: CraftContext, state: CraftState) -> f32
     progress + quality + durability + cp + fewer
 }
 
-// Without a quality target the steps alone count.
+// Without a quality target the steps alone count. For the loop of replay alone, as `step::execute`.
 pub fn score(context: CraftContext, state: CraftState) -> f32
+    requires { ⌜ CraftIn context state ⌝ }
+    ensures { λ r. ⌜ (r ≡ scoreOf context state) × T (not (isNan r)) ⌝ }
+{
+    if context.quality_target == 0 {
+        return fewer_steps(state.step, context.step_max);
+    }
+    weighed(context, state)
+}
+
+// The same for every other caller.
+pub fn score_single(context: CraftContext, state: CraftState) -> f32
     requires { ⌜ CraftIn context state ⌝ }
     ensures { λ r. ⌜ (r ≡ scoreOf context state) × T (not (isNan r)) ⌝ }
 {

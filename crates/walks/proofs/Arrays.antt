@@ -102,7 +102,8 @@ module _ {M : Type 1} (𝓤 : URA M) (H : Heap 𝓤) (A : Atoms 𝓤) (Γ : List
   in⊢ i = via 𝓤 _ (pop 𝓤 H A i (del 𝓤 H A p Γ)) (fill 𝓤 H A p i Γ)
 
 module _ {M : Type 1} {𝓤 : URA M} {H : Heap 𝓤} {A : Atoms 𝓤} {K : Type 0} {W : Given 𝓤 H A} {Γ : List (Item 𝓤)} {G : Goal 𝓤 H} where
-  changes : K → (Δ : List (Item 𝓤)) → ent 𝓤 (⋆ 𝓤 H A Γ) (⋆ 𝓤 H A Δ) → Step K W Δ G Γ G
+  -- the context replaced by what it entails
+  pub changes : K → (Δ : List (Item 𝓤)) → ent 𝓤 (⋆ 𝓤 H A Γ) (⋆ 𝓤 H A Δ) → Step K W Δ G Γ G
   changes t Δ h = step (λ s. record { prf = via 𝓤 _ h (s .prf) })
 
   beneath : K → (i j : Item 𝓤) (Δ : List (Item 𝓤)) → ent 𝓤 (⋆ 𝓤 H A Γ) (⋆ 𝓤 H A Δ) → Step K W (i ∷ j ∷ Δ) G (i ∷ j ∷ Γ) G

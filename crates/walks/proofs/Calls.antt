@@ -47,18 +47,18 @@ module _ {M : Type 1} {𝓤 : URA M} {H : Heap 𝓤} where
     landing (then {rest}) C Λ E v q = lands C Λ E d v rest q
     landing last C Λ E v q = settles E d v q
 
-    soaks : {B : Body} (s : Site f xs d B) (C : Calls 𝓤 H) (Λ : Loops 𝓤 H) (E : Env 𝓤 H) (v : Val) (q : Post 𝓤 H) → Soaks (landing s C Λ E v q)
+    pub soaks : {B : Body} (s : Site f xs d B) (C : Calls 𝓤 H) (Λ : Loops 𝓤 H) (E : Env 𝓤 H) (v : Val) (q : Post 𝓤 H) → Soaks (landing s C Λ E v q)
     soaks then C Λ E v q = tt
     soaks last C Λ E v q = tt
 
   -- what an operand reads does not turn on what an entry before the locals is
-  hidden : {A : Atoms 𝓤} {K : Type 0} {W : Given 𝓤 H A} {Γ : List (Item 𝓤)} {E : Env 𝓤 H} {xs : List Operand} {vs : List Val} (P : SProp 𝓤) (j : Item 𝓤) → Opds K W (raw P ∷ raw (mean 𝓤 H A j) ∷ Γ) E xs vs → Opds K W (raw P ∷ j ∷ Γ) E xs vs
+  pub hidden : {A : Atoms 𝓤} {K : Type 0} {W : Given 𝓤 H A} {Γ : List (Item 𝓤)} {E : Env 𝓤 H} {xs : List Operand} {vs : List Val} (P : SProp 𝓤) (j : Item 𝓤) → Opds K W (raw P ∷ raw (mean 𝓤 H A j) ∷ Γ) E xs vs → Opds K W (raw P ∷ j ∷ Γ) E xs vs
   hidden {A = A} {Γ = Γ} P j o = record {
     go = λ Kt h. via 𝓤 _ (under⊢ 𝓤 H A (raw P) (j ∷ Γ) (raw (mean 𝓤 H A j) ∷ Γ) (via 𝓤 _ (pop 𝓤 H A j Γ) (push 𝓤 H A (raw (mean 𝓤 H A j)) Γ))) (o .go Kt
         (via 𝓤 _ (under⊢ 𝓤 H A (raw P) (raw (mean 𝓤 H A j) ∷ Γ) (j ∷ Γ) (via 𝓤 _ (pop 𝓤 H A (raw (mean 𝓤 H A j)) Γ) (push 𝓤 H A j Γ))) h));
   }
 
-  calls-there : {A : Atoms 𝓤} {K : Type 0} {W : Given 𝓤 H A} {Γ : List (Item 𝓤)} {E : Env 𝓤 H} {C : Calls 𝓤 H} {Λ : Loops 𝓤 H} {q : Post 𝓤 H} {f : Name} {xs : List Operand} {d : Place} {B : Body} → K → (s : Site f xs d B) → FmC 𝓤 H (W .laws) C → (c : Contract 𝓤) → Triple 𝓤 (C f) c → (x : c .Ghost)
+  pub calls-there : {A : Atoms 𝓤} {K : Type 0} {W : Given 𝓤 H A} {Γ : List (Item 𝓤)} {E : Env 𝓤 H} {C : Calls 𝓤 H} {Λ : Loops 𝓤 H} {q : Post 𝓤 H} {f : Name} {xs : List Operand} {d : Place} {B : Body} → K → (s : Site f xs d B) → FmC 𝓤 H (W .laws) C → (c : Contract 𝓤) → Triple 𝓤 (C f) c → (x : c .Ghost)
       → Opds K W (raw (c .pre x) ∷ Γ) E xs (c .args x) → ((r : Val) → Seq K W (raw (c .post x r) ∷ Γ) (landing s C Λ E r q)) → Seq K W (raw (c .pre x) ∷ Γ) (runs C Λ E B q)
   calls-there t then fm c met x os k = calls-at t fm c met x os k
   calls-there t last fm c met x os k = calls-at-last t fm c met x os k
@@ -66,13 +66,13 @@ module _ {M : Type 1} {𝓤 : URA M} {H : Heap 𝓤} where
 -- ---- the calls
 module _ {M : Type 1} {𝓤 : URA M} {H : Heap 𝓤} {A : Atoms 𝓤} {K : Type 0} {W : Given 𝓤 H A} {Γ : List (Item 𝓤)} {f : Name} {xs : List Operand} {d : Place} {B : Body} (s : Site f xs d B) (C : Calls 𝓤 H) (Λ : Loops 𝓤 H) (E : Env 𝓤 H) (P : Post 𝓤 H) where
   -- the callee's result is r, whose machine value is written out
-  result : K → (res : Datum) (r : res .row .Denot) (w : Val) → (Is (res .row) r (res .val r ∷ []) → Typed (res .row .mir) (res .val r ∷ []) → Seq K W Γ (landing s C Λ E (res .val r) P)) → Seq K W (‵ (res .row .own r (w ∷ [])) ∷ Γ) (landing s C Λ E w P)
+  pub result : K → (res : Datum) (r : res .row .Denot) (w : Val) → (Is (res .row) r (res .val r ∷ []) → Typed (res .row .mir) (res .val r ∷ []) → Seq K W Γ (landing s C Λ E (res .val r) P)) → Seq K W (‵ (res .row .own r (w ∷ [])) ∷ Γ) (landing s C Λ E w P)
   result t res r w k = peeks t (res .row) (Is (res .row)) (shows 𝓤 H A (res .row)) r (w ∷ []) (λ is.
       drop t $ regoal t (λ (u : Val). landing s C Λ E u P) (ap only (res .tells r (w ∷ []) is)) refl $
       let is′ = subst (Is (res .row) r) (res .tells r (w ∷ []) is) is in k is′ (res .lawful 𝓤 H A W .typed r (res .val r ∷ []) is′))
 
 -- a copy of a `&[R]`, with the list's own length
-copied : {M : Type 1} {𝓤 : URA M} {H : Heap 𝓤} {A : Atoms 𝓤} {K : Type 0} {W : Given 𝓤 H A} {Γ : List (Item 𝓤)} {G : Goal 𝓤 H} {R : RattleType} → K → (S : View R) (ys : List (R .Denot)) → length ys ≡ S .count → Step K W (‵ (ShrFor S (S .life) ys (S .name)) ∷ ‵ (Shr S ys) ∷ Γ) G (‵ (Shr S ys) ∷ Γ) G
+pub copied : {M : Type 1} {𝓤 : URA M} {H : Heap 𝓤} {A : Atoms 𝓤} {K : Type 0} {W : Given 𝓤 H A} {Γ : List (Item 𝓤)} {G : Goal 𝓤 H} {R : RattleType} → K → (S : View R) (ys : List (R .Denot)) → length ys ≡ S .count → Step K W (‵ (ShrFor S (S .life) ys (S .name)) ∷ ‵ (Shr S ys) ∷ Γ) G (‵ (Shr S ys) ∷ Γ) G
 copied {𝓤 = 𝓤} {H} {A} {W = W} {R = R} t S ys l = step (λ k. use1 W (‵ (Shr S ys) ⊛ ‵ (Shr S ys)) (shr-slice-copy 𝓤 H A W (named 0) (S .life) R .twice (named-at S (S .name) ys) (fat S ∷ [])) $ split t $
     rewrite t 0 (λ (m : ℕ). ‵ (ShrSlice (named 0) (S .life) R .own (named-at S (S .name) ys) (sliceVal (S .block, S .offset) m ∷ []))) (sym l) refl $ k)
 

@@ -4,7 +4,7 @@
 --     index k Γ        where local k stands in the context Γ. What stands before the first local (slices, tokens, what a call holds) is passed over, so no walk counts places
 --     front, cells, spots, Laid     what stands before the locals; what the locals hold, and where they lie, as the context shows it; and that the context is made of just these. `refl` shows it
 --     starts           a function is entered: its locals are laid out, and its arguments stored.        returns      it returns: its locals are freed
---     keeps            all but the first locals are forgotten
+--     keeps            all but the first locals are forgotten.        written-out      the context is written out anew, and some locals forgotten
 --     opd, part        a local is read, and a field of one.        sets, sets-last, lands-in, lands-last      a local is written, by an assignment or by a call, in the midst of a block or at its end
 -- Assumes nothing. The rules of the logic, `Given`, are an argument of each law.
 use mathlib.Core.Path.{_≡_, refl, sym, subst}
@@ -57,6 +57,12 @@ stored (v ∷ vs) = has v ∷ stored vs
 abbrev pub only : ℕ → List Cell → List Cell
 only zero cs = []
 only (suc n) cs = first cs ∷ only n (others cs)
+
+-- those of cs, and those of ds where cs has nothing
+abbrev pub filled : List Cell → List Cell → List Cell
+filled [] ds = ds
+filled (none ∷ cs) ds = first ds ∷ filled cs (others ds)
+filled (has v ∷ cs) ds = has v ∷ filled cs (others ds)
 
 abbrev pub lay : List (Ty × ℕ) → List Cell → Fml
 lay [] cs = ftrue
@@ -237,6 +243,12 @@ module _ {M : Type 1} {𝓤 : URA M} {H : Heap 𝓤} {A : Atoms 𝓤} {K : Type 
   kept t zero (e ∷ E) cs = step (λ s. fsplit t $ emptied t e (first cs) $ move t (1 ∷ 0 ∷ []) $ kept t zero E (others cs) $ move t (1 ∷ 0 ∷ []) $ fjoin t $ s)
   kept t (suc n) (e ∷ E) cs = step (λ s. fsplit t $ move t (1 ∷ 0 ∷ []) $ kept t n E (others cs) $ move t (1 ∷ 0 ∷ []) $ fjoin t $ s)
 
+  thinned : K → {Γ : List (Item 𝓤)} {G : Goal 𝓤 H} (E : List (Ty × ℕ)) (cs ds : List Cell) → Step K W (‵ (lay E cs) ∷ Γ) G (‵ (lay E (filled cs ds)) ∷ Γ) G
+  thinned t [] cs ds = step (λ s. s)
+  thinned t (e ∷ E) [] ds = step (λ s. fsplit t $ emptied t e (first ds) $ move t (1 ∷ 0 ∷ []) $ thinned t E [] (others ds) $ move t (1 ∷ 0 ∷ []) $ fjoin t $ s)
+  thinned t (e ∷ E) (none ∷ cs) ds = step (λ s. fsplit t $ emptied t e (first ds) $ move t (1 ∷ 0 ∷ []) $ thinned t E cs (others ds) $ move t (1 ∷ 0 ∷ []) $ fjoin t $ s)
+  thinned t (e ∷ E) (has v ∷ cs) ds = step (λ s. fsplit t $ move t (1 ∷ 0 ∷ []) $ thinned t E cs (others ds) $ move t (1 ∷ 0 ∷ []) $ fjoin t $ s)
+
   -- a function's result is local 0, and its parameters are the locals after it
   pub starts : K → (Δ : List (Item 𝓤)) (C : Calls 𝓤 H) (Λ : Loops 𝓤 H) (f : Fn) (vs : List Val) (Kf : Val → SProp 𝓤) (l : Local) (ls : List Local) → f .locals ≡ l ∷ ls
       → ((bs : Blocks ls) → Suits (env ls bs) vs)
@@ -254,6 +266,10 @@ module _ {M : Type 1} {𝓤 : URA M} {H : Heap 𝓤} {A : Atoms 𝓤} {K : Type 
   module _ {Γ : List (Item 𝓤)} where
     pub keeps : K → {G : Goal 𝓤 H} (n : ℕ) → Laid (spots Γ) Γ → Step K W (front Γ ++ slots (spots Γ) (only n (cells Γ)) (‵ (deaths (spots Γ)) ∷ [])) G Γ G
     keeps t {G} n e = step (λ s. subst (λ (Δ : List (Item 𝓤)). Seq K W Δ G) (sym e) (gather t (front Γ) (spots Γ) (cells Γ) $ move t (1 ∷ []) $ kept t n (spots Γ) (cells Γ) $ move t (1 ∷ 0 ∷ []) $ spread t (front Γ) (spots Γ) (only n (cells Γ)) $ s))
+
+    -- the context written out: Δ stands before the locals, and they hold cs. What a local holds where cs has nothing is forgotten
+    pub written-out : K → {G : Goal 𝓤 H} (Δ : List (Item 𝓤)) (E : List (Ty × ℕ)) (cs : List Cell) → Γ ≡ Δ ++ slots E (filled cs (cells Γ)) (‵ (deaths E) ∷ []) → Step K W (Δ ++ slots E cs (‵ (deaths E) ∷ [])) G Γ G
+    written-out t {G} Δ E cs e = step (λ s. subst (λ (Θ : List (Item 𝓤)). Seq K W Θ G) (sym e) (gather t Δ E (filled cs (cells Γ)) $ move t (1 ∷ []) $ thinned t E cs (cells Γ) $ move t (1 ∷ 0 ∷ []) $ spread t Δ E cs $ s))
 
     -- a place that is written, whatever stands there
     writes : K → (n : ℕ) {e : Ty × ℕ} (c : Cell) {v : Val} → nth 𝓤 H A n Γ ≡ ‵ (cell e c) → T (hasTy (e .0) v) × WT v → Writes K W Γ (e .0) (e .1) zero v (put 𝓤 H A n (‵ (fat fullShare (e .0) (e .1) zero v)) Γ)

@@ -48,27 +48,27 @@ abbrev pub ShrSuits : {R : RattleType} → ShrFn R → List Local → Type 0
 ShrSuits {R} F ls = (κ : Lft) (v : Val) (a : Denots (rowsOf 1 (F .takes) (κ, tt))) (bs : Blocks ls) → Typed (mirs (ShrSlice (named 0) κ R ∷ rowsOf 1 (F .takes) (κ, tt))) (v ∷ flat (rowsOf 1 (F .takes) (κ, tt)) (valsOf 1 (F .takes) (κ, tt) a)) → Suits (env ls bs) (v ∷ machine (F .takes) (from 1 (F .takes) (κ, tt) a))
 
 -- ---- of plain data nothing is had at exit
-abbrev staysOf : (n : ℕ) (ks : List Datum) → Stays {n = n} (slotsOf ks) (all yes (slotsOf ks))
+abbrev pub staysOf : (n : ℕ) (ks : List Datum) → Stays {n = n} (slotsOf ks) (all yes (slotsOf ks))
 staysOf n [] = tt
 staysOf n (k ∷ ks) = (stay-dropped (plain (λ _. k .row)) yes, staysOf n ks)
 
 silent : {D : Type 0} (e : Exit D) → e ≡ unchanged → (x : D) (f : Last e x) → left e x f ≡ ftrue
 silent e p x = subst (λ (e′ : Exit _). (f : Last e′ x) → left e′ x f ≡ ftrue) (sym p) (λ f. refl)
 
-abbrev lastsOf : (n : ℕ) (ks : List Datum) (κs : Lfts n) (a : Denots (rowsOf n ks κs)) → Fins κs (slotsOf ks) (all yes (slotsOf ks)) a
+abbrev pub lastsOf : (n : ℕ) (ks : List Datum) (κs : Lfts n) (a : Denots (rowsOf n ks κs)) → Fins κs (slotsOf ks) (all yes (slotsOf ks)) a
 lastsOf n [] κs a = tt
 lastsOf n (k ∷ ks) κs a = (subst (λ (e : Exit (k .row .Denot)). Last e (a .0)) (sym (k .still yes)) tt, lastsOf n ks κs (a .1))
 
-fitsAll : (n : ℕ) (ks : List Datum) (κs : Lfts n) (a : Denots (rowsOf n ks κs)) → fitsOf κs (slotsOf ks) (all yes (slotsOf ks)) (staysOf n ks) a (lastsOf n ks κs a)
+pub fitsAll : (n : ℕ) (ks : List Datum) (κs : Lfts n) (a : Denots (rowsOf n ks κs)) → fitsOf κs (slotsOf ks) (all yes (slotsOf ks)) (staysOf n ks) a (lastsOf n ks κs a)
 fitsAll n [] κs a = tt
 fitsAll n (k ∷ ks) κs a = (tt, fitsAll n ks κs (a .1))
 
 module _ {M : Type 1} (𝓤 : URA M) (H : Heap 𝓤) (A : Atoms 𝓤) (W : Given 𝓤 H A) where
-  goesOf : (n : ℕ) (ks : List Datum) → AllGo 𝓤 H A W n (slotsOf ks) (all yes (slotsOf ks)) (staysOf n ks)
+  pub goesOf : (n : ℕ) (ks : List Datum) → AllGo 𝓤 H A W n (slotsOf ks) (all yes (slotsOf ks)) (staysOf n ks)
   goesOf n [] = tt
   goesOf n (k ∷ ks) = (goes-dropped 𝓤 H A W n (plain (λ _. k .row)) yes (λ κs x f. silent (k .row .exit yes) (k .still yes) x f), goesOf n ks)
 
-  hadOf : (n : ℕ) (ks : List Datum) (κs : Lfts n) (a : Denots (rowsOf n ks κs)) (vss : Valss (rowsOf n ks κs)) → ent 𝓤 (emp 𝓤) (sem 𝓤 H A (hasOf κs (slotsOf ks) (all yes (slotsOf ks)) (staysOf n ks) a (lastsOf n ks κs a) vss))
+  pub hadOf : (n : ℕ) (ks : List Datum) (κs : Lfts n) (a : Denots (rowsOf n ks κs)) (vss : Valss (rowsOf n ks κs)) → ent 𝓤 (emp 𝓤) (sem 𝓤 H A (hasOf κs (slotsOf ks) (all yes (slotsOf ks)) (staysOf n ks) a (lastsOf n ks κs a) vss))
   hadOf n [] κs a vss = id⊢ 𝓤 (emp 𝓤)
   hadOf n (k ∷ ks) κs a vss = qed W [] ∵ use0 W (‵ (hasOf κs (slotsOf ks) (all yes (slotsOf ks)) (staysOf n ks) (a .1) (lastsOf n ks κs (a .1)) (vss .1))) (hadOf n ks κs (a .1) (vss .1)) $ nothing ! $ fjoin ! $ done !
 

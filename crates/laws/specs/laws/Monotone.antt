@@ -1,11 +1,12 @@
 -- The rounded operations keep the order of floats: a sum grows with both of its parts, a product by what is not negative with the other factor, a
--- quotient of whole numbers with their fraction, and a negation turns the order round.
+-- quotient of whole numbers with their fraction; a negation turns the order round, and what is at least 0 falls where its divisor grows.
 -- Assumes nothing.
 use mathlib.Core.Path.{_≡_, refl, sym, ap, _∙_, subst}
 use mathlib.Core.Bool.{Bool, true, false, cond, not, Bool·beq}
 use mathlib.Core.Logic.{_⊎_, inl, inr}
 use Prim.Native.Nat.{ℕ, zero, suc, _+_, _-_, _*_, _^_, _≤_, _<_, zero-le}
-use native.Mathlib.Nat.{mul-comm, mul-assoc, mul-left-comm, mul-one, mul-pos, add-mul, mul-sub, zero-mul, zero-lt-suc, mul-le-mul-right, le-of-mul-le-mul-right}
+use native.Mathlib.Nat.{lt-irrefl, zero-lt-suc, mul-comm, mul-assoc, mul-left-comm, mul-one, mul-pos, add-mul, mul-sub, zero-mul}
+use native.Mathlib.Nat.{mul-le-mul-right, le-of-mul-le-mul-right}
 use native.Mathlib.Omega.{arith}
 use lib.Dec.{T, ltb, ltb→lt, nltb→le, eqb·suc-zero}
 use lib.IntN.{ℤ, pos, negsuc}
@@ -16,8 +17,11 @@ use lib.Ieee.Exact.{HasValue}
 use lib.Ieee.Back.{round-whole}
 use lib.Ieee.Order.{kept, drop, round-mono}
 use lib.Ieee.Scale.{round-same, finite}
+use Rattle.laws.specs.Floats.{one}
+use Rattle.laws.specs.laws.Tests.{true-false}
 use Rattle.laws.specs.laws.Plus.{Plus}
-use Rattle.laws.specs.laws.Order.{Leq, plusBy, minusBy, InOrder, plus-by-mul, minus-by-mul, order-le, le-order}
+use Rattle.laws.specs.laws.Order.{Leq, plusBy, minusBy, InOrder, plus-by-mul, minus-by-mul, order-le, le-order, le-through}
+use Rattle.laws.specs.laws.AtLeast.{AtLeast0, least-minus, one-most, some}
 
 -- ---- a negation turns the order round
 
@@ -279,3 +283,41 @@ pub quotient-up : (f : Format) (y : ℤ) (n : ℕ) (z : ℤ) (m : ℕ) → 0 < n
     → T (le (div f (ofInt f y) (ofInt f (pos n))) (div f (ofInt f z) (ofInt f (pos m))))
 quotient-up f y n z m N M y-fits n-fits z-fits m-fits h =
     near-mono f _ _ (plusOf y) (minusOf y) n (plusOf z) (minusOf z) m N M (quotient-near f y n N y-fits n-fits) (quotient-near f z m M z-fits m-fits) h
+
+-- ---- what is at least 0, divided by more, is no more
+
+over-near : (f : Format) (s : Bool) (m : ℕ) (e : ℤ) (n : ℕ) (d : ℤ) → 0 < n
+    → Near f (div f (fin s m e) (fin false n d)) (plusBy s (m * up e) * down d) (minusBy s (m * up e) * down d) (n * up d * down e)
+unfolding div
+over-near f s m e zero d N = absurd (lt-irrefl 0 N)
+over-near f true m e (suc k) d N =
+    rw eqb·suc-zero (near-minus f _ (0 * down d) (m * up e * down d) (suc k * up d * down e) (m * up e * down d) (omega arith) (omega arith) refl)
+over-near f false m e (suc k) d N =
+    rw eqb·suc-zero (near-plus f _ (m * up e * down d) (0 * down d) (suc k * up d * down e) (m * up e * down d) (omega arith) (omega arith) refl)
+
+-- a / (y / d) falls where y / d grows
+over-leq : (a c n y d y' d' : ℕ) → n ≡ 0 → y * d' ≤ y' * d → Leq (a * d') (n * d') (y' * c) (a * d) (n * d) (y * c)
+over-leq a c n y d y' d' z h =
+    let l = simp (mul-assoc, mul-comm, mul-left-comm) at (mul-le-mul-right (a * c) h) in
+    rw z (simp (mul-assoc, mul-comm, mul-left-comm) (omega (arith, l)))
+
+pub over-down : (f : Format) (x y y' : Float) → AtLeast0 x → T (finite x) → T (le one y) → T (finite y) → T (finite y') → T (le y y')
+    → T (le (div f x y') (div f x y))
+unfolding ofInt
+over-down f nan y y' l p h q q' k = absurd p
+over-down f (inf s) y y' l p h q q' k = absurd p
+over-down f (fin s m e) nan y' l p h q q' k = absurd q
+over-down f (fin s m e) (inf t) y' l p h q q' k = absurd q
+over-down f (fin s m e) (fin t n d) nan l p h q q' k = absurd q'
+over-down f (fin s m e) (fin t n d) (inf t') l p h q q' k = absurd q'
+over-down f (fin s m e) (fin true n d) (fin t' n' d') l p h q q' k = absurd (true-false (one-most true n d h .0))
+over-down f (fin s m e) (fin false n d) (fin true n' d') l p h q q' k =
+    absurd (true-false (one-most true n' d' (le-through one (fin false n d) (fin true n' d') tt tt tt h k) .0))
+over-down f (fin s m e) (fin false n d) (fin false n' d') l p h q q' k =
+    let N = some n d (one-most false n d h .1) in
+    let N' = some n' d' (one-most false n' d' (le-through one (fin false n d) (fin false n' d') tt tt tt h k) .1) in
+    near-mono f _ _ _ _ (n' * up d' * down e) _ _ (n * up d * down e)
+    (mul-pos (mul-pos N' (up-pos d')) (down-pos e)) (mul-pos (mul-pos N (up-pos d)) (down-pos e))
+    (over-near f s m e n' d' N') (over-near f s m e n d N)
+    (over-leq (plusBy s (m * up e)) (down e) (minusBy s (m * up e)) (n * up d) (down d) (n' * up d') (down d') (least-minus s m e l)
+    (omega (arith, le-order (fin false n d) (fin false n' d') tt tt k)))

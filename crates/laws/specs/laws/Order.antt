@@ -1,19 +1,19 @@
 -- The order of floats: finite ones are in the order of the fractions, with a sign, that they are.
 -- Assumes nothing.
-use mathlib.Core.Path.{_≡_, refl, sym, subst}
-use mathlib.Core.Bool.{Bool, true, false, _&&_, _||_}
+use mathlib.Core.Path.{_≡_, refl, sym, ap, _∙_, subst}
+use mathlib.Core.Bool.{Bool, true, false, not, cond, _&&_, _||_}
 use mathlib.Core.Logic.{inl, inr}
 use Prim.Native.Nat.{ℕ, _+_, _*_, _≤_, _<_, zero-le}
 use native.Mathlib.Nat.{le-refl, eq-or-lt-of-le, lt-of-not-le, not-le-of-lt, mul-comm, mul-assoc, mul-left-comm, add-mul, zero-mul}
 use native.Mathlib.Nat.{mul-le-mul-right, le-of-mul-le-mul-right}
 use native.Mathlib.Omega.{arith}
-use lib.Dec.{T, ltb, eqb, lt→ltb, ltb→lt, eqb→eq}
+use lib.Dec.{T, ltb, eqb, lt→ltb, ltb→lt, eqb→eq, T-not}
 use lib.IntN.{pos}
 use lib.Ieee.{Float, nan, inf, fin, up, down, below, level, le, lt, eq}
 use lib.Ieee.Fits.{down-pos, and-i, eq→eqb}
 use lib.Ieee.Positive.{den, den-pos}
 use lib.Ieee.Scale.{finite}
-use Rattle.laws.specs.laws.Tests.{and-left, and-right, or-left, or-right, or-cases}
+use Rattle.laws.specs.laws.Tests.{true-false, and-left, and-right, or-left, or-right, or-cases, or-true}
 use Rattle.laws.specs.laws.Plus.{Plus}
 use Rattle.laws.specs.laws.Small.{or-le}
 
@@ -179,6 +179,72 @@ lt-not-le (fin s m e) (fin t n d) p q h l =
 pub lt-le : (x y : Float) → T (lt x y) → T (le x y)
 unfolding le
 lt-le x y h = or-left (lt x y) (eq x y) h
+
+-- ---- of two finite floats exactly one is below the other, or they are equal
+
+lt-not-ge : (s : Bool) (a : ℕ) (t : Bool) (b : ℕ) → below s a t b ≡ not (below t b s a || level t b s a)
+lt-not-ge s a t b =
+    opposite (below s a t b) (below t b s a || level t b s a) (λ h k. omega (arith, lt-signed s a t b h, le-signed t b s a k))
+    (λ h. signed-le t b s a (not-less (λ l. T-not (below s a t b) h (signed-lt s a t b l))))
+  where
+    not-less : {x y : ℕ} → (x < y → ⊥) → y ≤ x
+    not-less f = let l = lt-of-not-le f in omega arith
+
+    opposite : (p q : Bool) → (T p → T q → ⊥) → (T (not p) → T q) → p ≡ not q
+    opposite true true f g = absurd (f tt tt)
+    opposite true false f g = refl
+    opposite false true f g = refl
+    opposite false false f g = absurd (g tt)
+
+-- one is below the other exactly where the other is not at most it
+pub lt-or-ge : (x y : Float) → T (finite x) → T (finite y) → lt x y ≡ not (le y x)
+unfolding le
+lt-or-ge nan y p q = absurd p
+lt-or-ge (inf s) y p q = absurd p
+lt-or-ge (fin s m e) nan p q = absurd q
+lt-or-ge (fin s m e) (inf t) p q = absurd q
+lt-or-ge (fin s m e) (fin t n d) p q = lt-not-ge s (m * up e * down d) t (n * up d * down e)
+
+level-turn : (s : Bool) (a : ℕ) (t : Bool) (b : ℕ) → T (level s a t b) → T (level t b s a)
+level-turn false a false b h = and-i (eqb b a) true (eq→eqb (sym (eqb→eq a b (and-left (eqb a b) true h)))) tt
+level-turn false a true b h = both-zero b a (omega (arith, eqb→eq a b (and-left (eqb a b) (eqb a 0) h), eqb→eq a 0 (and-right (eqb a b) (eqb a 0) h)))
+level-turn true a false b h = both-zero b a (omega (arith, eqb→eq a b (and-left (eqb a b) (eqb a 0) h), eqb→eq a 0 (and-right (eqb a b) (eqb a 0) h)))
+level-turn true a true b h = and-i (eqb b a) true (eq→eqb (sym (eqb→eq a b (and-left (eqb a b) true h)))) tt
+
+eq-turn : (x y : Float) → T (finite x) → T (finite y) → eq y x ≡ eq x y
+unfolding eq
+eq-turn nan y p q = absurd p
+eq-turn (inf s) y p q = absurd p
+eq-turn (fin s m e) nan p q = absurd q
+eq-turn (fin s m e) (inf t) p q = absurd q
+eq-turn (fin s m e) (fin t n d) p q =
+    let a = m * up e * down d in
+    let b = n * up d * down e in
+    alike (level t b s a) (level s a t b) (level-turn t b s a) (level-turn s a t b)
+  where
+    alike : (p q : Bool) → (T p → T q) → (T q → T p) → p ≡ q
+    alike true true f g = refl
+    alike true false f g = absurd (f tt)
+    alike false true f g = absurd (g tt)
+    alike false false f g = refl
+
+abbrev pub oneOf : Bool → Bool → Bool → Bool
+oneOf true b c = not b && not c
+oneOf false b c = cond b (not c) c
+
+pub one-of-three : (x y : Float) → T (finite x) → T (finite y) → oneOf (lt x y) (eq x y) (lt y x) ≡ true
+unfolding le
+one-of-three x y p q =
+    go (lt x y) (eq x y) (lt y x) (lt-or-ge x y p q ∙ ap (λ (b : Bool). not (lt y x || b)) (eq-turn x y p q)) (lt-or-ge y x q p)
+  where
+    go : (a e b : Bool) → a ≡ not (b || e) → b ≡ not (a || e) → oneOf a e b ≡ true
+    go true true b h k = absurd (true-false (h ∙ ap not (or-true b)))
+    go true false true h k = absurd (true-false h)
+    go true false false h k = refl
+    go false true true h k = absurd (true-false k)
+    go false true false h k = refl
+    go false false true h k = refl
+    go false false false h k = absurd (true-false (sym h))
 
 -- what has no minus and is below a number is at least 0
 pub plus-least : (x y : Float) → Plus x → T (lt x y) → T (le (fin false 0 (pos 0)) x)

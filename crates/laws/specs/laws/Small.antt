@@ -3,7 +3,7 @@
 use mathlib.Core.Path.{_≡_, refl, sym, ap, _∙_, subst}
 use mathlib.Core.Bool.{Bool, true, false, cond, Bool·beq, _&&_, _||_}
 use Prim.Native.Nat.{ℕ, zero, suc, _+_, _-_, _*_, _/_, _^_, _≤_, _<_, min, zero-le}
-use native.Mathlib.Nat.{le-trans, le-of-eq, le-of-lt, lt-of-le-of-lt, zero-lt-suc, min-le-left, min-eq-left, div-le-of-le-mul}
+use native.Mathlib.Nat.{le-trans, le-of-eq, le-of-lt, lt-of-le-of-lt, lt-irrefl, zero-lt-suc, min-le-left, min-eq-left, div-le-of-le-mul}
 use native.Mathlib.Nat.{mul-assoc, mul-comm, mul-right-comm, mul-mul-mul-comm, mul-one, one-mul, zero-mul, add-mul, mul-pos}
 use native.Mathlib.Nat.{mul-le-mul, mul-le-mul-right, mul-lt-mul-of-pos-right, le-of-mul-le-mul-right}
 use native.Mathlib.Omega.{arith}
@@ -135,9 +135,16 @@ mul-small f (fin s m e) (fin t n g) b d B p q =
     round-small f (unlike s t) (m * up e * (n * up g)) (down e * down g) (b * d) (mul-pos (down-pos e) (down-pos g)) B
     (le-trans (mul-le-mul p q) (le-of-eq (mul-mul-mul-comm b (down e) d (down g))))
 
+-- what is at most b times as large as what it is divided by
+pub div-at-most : (f : Format) (s : Bool) (m : ℕ) (e : ℤ) (t : Bool) (n : ℕ) (d : ℤ) (b : ℕ) → b ≤ 2 ^ prec f → 0 < n
+    → m * up e * down d ≤ b * (n * up d * down e) → Small (div f (fin s m e) (fin t n d)) b
+unfolding div
+div-at-most f s m e t zero d b B N h = absurd (lt-irrefl 0 N)
+div-at-most f s m e t (suc w) d b B N h =
+    rw eqb·suc-zero (round-small f (unlike s t) (m * up e * down d) (suc w * up d * down e) b (mul-pos (mul-pos N (up-pos d)) (down-pos e)) B h)
+
 -- what is at most b * n, over a whole number n above 0
 pub div-small : (f : Format) (x y : Float) (b n : ℕ) → b ≤ 2 ^ prec f → 0 < n → HasValue y false n 1 → Small x (b * n) → Small (div f x y) b
-unfolding div
 div-small f nan y b n B N v p = absurd p
 div-small f (inf s) y b n B N v p = absurd p
 div-small f (fin s m e) nan b n B N v p = absurd v
@@ -148,13 +155,12 @@ div-small f (fin s m e) (fin t zero d) b n B N v p = absurd (nothing n (down d) 
     nothing n k N K h = let p : 0 < n * k = mul-pos N K in omega (arith, zero-mul (up d))
 div-small f (fin s m e) (fin t (suc w) d) b n B N v p =
     let y-is : n * down d ≡ suc w * up d = sym (v .1) ∙ mul-one (suc w * up d) in
-    rw eqb·suc-zero
-    (round-small f (unlike s t) (m * up e * down d) (suc w * up d * down e) b (mul-pos (mul-pos (zero-lt-suc w) (up-pos d)) (down-pos e)) B
+    div-at-most f s m e t (suc w) d b B (zero-lt-suc w)
     (le-trans (mul-le-mul-right (down d) p)
     (le-of-eq
     (mul-right-comm (b * n) (down e) (down d)
     ∙ ap (λ (z : ℕ). z * down e) (mul-assoc b n (down d) ∙ ap (λ (z : ℕ). b * z) y-is)
-    ∙ mul-assoc b (suc w * up d) (down e)))))
+    ∙ mul-assoc b (suc w * up d) (down e))))
 
 -- ---- truncation
 

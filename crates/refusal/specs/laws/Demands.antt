@@ -52,6 +52,9 @@ refusal-is-not-0 X.BadScore e = omega arith
 refusal-is-not-0 X.VisitsFull e = omega arith
 refusal-is-not-0 X.MalformedLine e = omega arith
 refusal-is-not-0 X.TooLong e = omega arith
+refusal-is-not-0 X.NoDraw e = omega arith
+refusal-is-not-0 X.DrawTooHigh e = omega arith
+refusal-is-not-0 X.BadSearch e = omega arith
 
 -- ---- the number is one of the tests'
 

@@ -1,0 +1,3 @@
+pub mod Best
+pub mod inner
+pub mod laws

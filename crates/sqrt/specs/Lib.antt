@@ -1,0 +1,4 @@
+pub mod Sqrt
+pub mod Root
+pub mod inner
+pub mod laws

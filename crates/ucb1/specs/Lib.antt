@@ -1,0 +1,3 @@
+pub mod Ucb1
+pub mod Fair
+pub mod laws
