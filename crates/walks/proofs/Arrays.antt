@@ -19,7 +19,7 @@ use types.Kit.{Given, Item, ‵, _⊛_, some, later, Post, Goal, runs, Soaks, �
 use types.Tokens.{lft-new, lft-end}
 use types.SemTy.{cells, Arr}
 use types.Share.{arr-parts}
-use types.Run.{Opd, Rv, Walks, Finds, look, init, stop, from, load, addr, and-then, no-more, assigns}
+use types.Run.{Opd, Rv, Walks, Finds, stop, from, load, addr, and-then, no-more, assigns}
 use types.Part.{rep, agg}
 use denote.RattleType.{RattleType}
 use denote.Shadow.{shadow, pureL}
@@ -31,7 +31,7 @@ use denote.Slice.{sliceTy, sliceVal, MutSlice, Room, heres, codedHoleys, finally
 use denote.Lend.{Held, lends-slice, slice-back}
 use denote.Index.{row, whole-out, whole-in}
 use denote.Steps.{only, peeks}
-use Rattle.walks.proofs.Locals.{index, under⊢}
+use Rattle.walks.proofs.Locals.{none, local-at, put-local, looked, stores, under⊢}
 use Rattle.walks.proofs.Lend.{View, fat as wide, named-at, Own, Tok}
 use Rattle.walks.proofs.Values.{Datum}
 
@@ -147,8 +147,8 @@ module _ {M : Type 1} {𝓤 : URA M} {H : Heap 𝓤} {A : Atoms 𝓤} {K : Type 
 module _ {M : Type 1} {𝓤 : URA M} {H : Heap 𝓤} {A : Atoms 𝓤} {K : Type 0} {W : Given 𝓤 H A} {Γ : List (Item 𝓤)} {E : Env 𝓤 H} {C : Calls 𝓤 H} {Λ : Loops 𝓤 H} {P : Post 𝓤 H} {rest : Body} where
   -- the local j is the array. Its list is handed on as one of which no more is seen than that it is n times x
   pub fills : K → (k : Datum) (n : ℕ) (x : k .row .Denot) → Is (k .row) x (k .val x ∷ []) → {op : Operand} {j b : ℕ} → Opd K W Γ E op (k .val x)
-      → nth 𝓤 H A (index j Γ) Γ ≡ ‵ (froom (arrayTy k n) b zero) → spotOf 𝓤 H E j ≡ (arrayTy k n, b, zero)
-      → ((xs : List (k .row .Denot)) → xs ≡ replicate n x → Is (Array (k .row) n) xs (array-val k xs ∷ []) → Seq K W (put 𝓤 H A (index j Γ) (‵ (fat fullShare (arrayTy k n) b zero (array-val k xs))) Γ) (runs C Λ E rest P))
+      → local-at 𝓤 H A j Γ ≡ ‵ (froom (arrayTy k n) b zero) → spotOf 𝓤 H E j ≡ (arrayTy k n, b, zero)
+      → ((xs : List (k .row .Denot)) → xs ≡ replicate n x → Is (Array (k .row) n) xs (array-val k xs ∷ []) → Seq K W (put-local 𝓤 H A j (‵ (fat fullShare (arrayTy k n) b zero (array-val k xs))) Γ) (runs C Λ E rest P))
       → Seq K W Γ (runs C Λ E (seq (assign (place j []) (repeat op n)) rest) P)
   fills t k n x is {op} {j} {b} o e sp s =
       let xs : List (k .row .Denot) = replicate n x in
@@ -156,17 +156,17 @@ module _ {M : Type 1} {𝓤 : URA M} {H : Heap 𝓤} {A : Atoms 𝓤} {K : Type 
       let same : arrayVal (replicate n (k .val x)) ≡ array-val k xs = ap arrayVal (vals-same k x n) in
       let is′ : Is (Array (k .row) n) xs (array-val k xs ∷ []) = subst (λ (v : Val). Is (Array (k .row) n) xs (v ∷ [])) same all in
       assigns t (subst (λ (v : Val). Rv K W Γ E (repeat op n) v) same (rep t n o)) (at-local t sp)
-      (init t (index j Γ) e (array-lawful 𝓤 H A W (k .row) (k .lawful 𝓤 H A W) n .typed xs (array-val k xs ∷ []) is′ .0)) $ s xs refl is′
+      (stores t j none e (array-lawful 𝓤 H A W (k .row) (k .lawful 𝓤 H A W) n .typed xs (array-val k xs ∷ []) is′ .0)) $ s xs refl is′
 
 -- `&_x` and `&mut _x` as a slice, where x is the array, and y and z the two locals that are made. Each equation is by computation
 module _ {M : Type 1} {𝓤 : URA M} {H : Heap 𝓤} {A : Atoms 𝓤} {K : Type 0} {W : Given 𝓤 H A} {Γ : List (Item 𝓤)} {E : Env 𝓤 H} {C : Calls 𝓤 H} {Λ : Loops 𝓤 H} {P : Post 𝓤 H} {rest : Body} where
   pub borrows : K → {x y z : ℕ} {ℓ′ ℓ″ : Lifetime} {μ′ μ″ : Mutability} {τ τ′ τ″ : Ty} {l′ l″ b n : ℕ} → n < 2 ^ 64
-      → nth 𝓤 H A (index y Γ) Γ ≡ ‵ (froom (tyRef ℓ′ μ′ τ′) l′ zero)
-      → nth 𝓤 H A (index y Γ) (put 𝓤 H A (index y Γ) (‵ (fat fullShare (tyRef ℓ′ μ′ τ′) l′ zero (vptr b zero))) Γ) ≡ ‵ (fat fullShare (tyRef ℓ′ μ′ τ′) l′ zero (vptr b zero))
-      → nth 𝓤 H A (index z Γ) (put 𝓤 H A (index y Γ) (‵ (fat fullShare (tyRef ℓ′ μ′ τ′) l′ zero (vptr b zero))) Γ) ≡ ‵ (froom (sliceTy (tyRef ℓ″ μ″ τ″)) l″ zero)
+      → local-at 𝓤 H A y Γ ≡ ‵ (froom (tyRef ℓ′ μ′ τ′) l′ zero)
+      → local-at 𝓤 H A y (put-local 𝓤 H A y (‵ (fat fullShare (tyRef ℓ′ μ′ τ′) l′ zero (vptr b zero))) Γ) ≡ ‵ (fat fullShare (tyRef ℓ′ μ′ τ′) l′ zero (vptr b zero))
+      → local-at 𝓤 H A z (put-local 𝓤 H A y (‵ (fat fullShare (tyRef ℓ′ μ′ τ′) l′ zero (vptr b zero))) Γ) ≡ ‵ (froom (sliceTy (tyRef ℓ″ μ″ τ″)) l″ zero)
       → spotOf 𝓤 H E x ≡ (τ, b, zero) → spotOf 𝓤 H E y ≡ (tyRef ℓ′ μ′ τ′, l′, zero) → spotOf 𝓤 H E z ≡ (sliceTy (tyRef ℓ″ μ″ τ″), l″, zero)
-      → Step K W (put 𝓤 H A (index z Γ) (‵ (fat fullShare (sliceTy (tyRef ℓ″ μ″ τ″)) l″ zero (sliceVal (b, zero) n))) (put 𝓤 H A (index y Γ) (‵ (fat fullShare (tyRef ℓ′ μ′ τ′) l′ zero (vptr b zero))) Γ)) (runs C Λ E rest P)
+      → Step K W (put-local 𝓤 H A z (‵ (fat fullShare (sliceTy (tyRef ℓ″ μ″ τ″)) l″ zero (sliceVal (b, zero) n))) (put-local 𝓤 H A y (‵ (fat fullShare (tyRef ℓ′ μ′ τ′) l′ zero (vptr b zero))) Γ)) (runs C Λ E rest P)
       Γ (runs C Λ E (seq (assign (place y []) (addrOf (place x []))) (seq (assign (place z []) (aggregate (copy (place y []) ∷ intBig w64 n ∷ []))) rest)) P)
   borrows t {y = y} {z} less ey ey′ ez sx sy sz = step (λ s.
-      assigns t (addr t (at-local t sx)) (at-local t sy) (init t (index y Γ) ey (tt, tt)) $
-      assigns t (agg t (and-then t (load t (at-local t sy) (look t (index y Γ) ey′)) (and-then t (big t less) (no-more t)))) (at-local t sz) (init t (index z Γ) ez (tt, (tt, (record { fits = less }, tt)))) $ s)
+      assigns t (addr t (at-local t sx)) (at-local t sy) (stores t y none ey (tt, tt)) $
+      assigns t (agg t (and-then t (load t (at-local t sy) (looked t y ey′)) (and-then t (big t less) (no-more t)))) (at-local t sz) (stores t z none ez (tt, (tt, (record { fits = less }, tt)))) $ s)

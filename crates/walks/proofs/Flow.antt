@@ -18,9 +18,9 @@ use mir.Val.{vbool}
 use base.Fml.{fat, froom}
 use prog.Wp.{Heap, Env, Calls, Loops, Tables, Wp, spotOf, next, returns as returnsᴼ, afterTurn, afterBlock, afterSeq}
 use ghost.Atoms.{Atoms}
-use types.Kit.{Given, Item, ‵, nth, Post, post, anyQ, runs, prop, Seq, Step, step, _$_}
-use types.Run.{Opd, Rv, look, load, from, stop, init, assigns, first as into, blocks, loops, again, Below, stays, leaves-loop, branches, skips}
-use Rattle.walks.proofs.Locals.{index, with, Fits}
+use types.Kit.{Given, Item, ‵, Post, post, anyQ, runs, prop, Seq, Step, step, _$_}
+use types.Run.{Opd, Rv, load, from, stop, assigns, first as into, blocks, loops, again, Below, stays, leaves-loop, branches, skips}
+use Rattle.walks.proofs.Locals.{none, local-at, with, Fits, looked, stores}
 
 is-true : (y : Bool) → T y → y ≡ true
 is-true true h = refl
@@ -50,19 +50,19 @@ module _ {M : Type 1} {𝓤 : URA M} {H : Heap 𝓤} {A : Atoms 𝓤} {K : Type 
 
   -- I x is what stands at the test, in the state x, of which μ is the measure. A turn ends in a state of a smaller measure, or returns
   module _ {E : Env 𝓤 H} {k : ℕ} {rv : RValue} {turn rest : Body} {q : Post 𝓤 H} {X : Type 0} (𝓣 : Tables 𝓤 H) (I : X → List (Item 𝓤)) (μ : X → ℕ) (test : X → Bool) where
-    pub whiles : K → ((x : X) → nth 𝓤 H A (index k (I x)) (I x) ≡ ‵ (froom (spotOf 𝓤 H E k .0) (spotOf 𝓤 H E k .1) zero)) → ((x : X) (y : Bool) → Fits 𝓤 H A (I x) E k (vbool y))
-        → ((x : X) (y : Bool) → nth 𝓤 H A (index k (I x)) (with 𝓤 H A (I x) E k (vbool y)) ≡ ‵ (fat fullShare (spotOf 𝓤 H E k .0) (spotOf 𝓤 H E k .1) zero (vbool y)))
+    pub whiles : K → ((x : X) → local-at 𝓤 H A k (I x) ≡ ‵ (froom (spotOf 𝓤 H E k .0) (spotOf 𝓤 H E k .1) zero)) → ((x : X) (y : Bool) → Fits 𝓤 H A (I x) E k (vbool y))
+        → ((x : X) (y : Bool) → local-at 𝓤 H A k (with 𝓤 H A (I x) E k (vbool y)) ≡ ‵ (fat fullShare (spotOf 𝓤 H E k .0) (spotOf 𝓤 H E k .1) zero (vbool y)))
         → ((x : X) → Rv K W (I x) E rv (vbool (test x)))
         → ((x : X) → test x ≡ true → (G : Post 𝓤 H) → post 𝓤 H G returnsᴼ ≡ post 𝓤 H q returnsᴼ → ((y : X) → μ y < μ x → Seq K W (I y) (prop (post 𝓤 H G next))) → Seq K W (with 𝓤 H A (I x) E k (vbool true)) (runs (𝓣 .C) (𝓣 .Λ) E turn G))
         → ((x : X) → test x ≡ false → Seq K W (with 𝓤 H A (I x) E k (vbool false)) (runs (𝓣 .C) (𝓣 .Λ) E rest q))
         → (x : X) → Seq K W (I x) (runs (𝓣 .C) (𝓣 .Λ) E (seq (block (loop (seq (assign (place k []) rv) (seq (cond (copy (place k [])) skip (exit 1)) turn)))) rest) q)
     unfolding afterTurn
     whiles t empty fits there tests more done x₀ = into t $ blocks t $ loops t 𝓣 (λ y x. μ y < μ x) (InvImage·wf μ (Nat·lt-wfRel .wf)) I (λ x.
-        assigns t (tests x) (from t (stop t)) (init t (index k (I x)) (empty x) (fits x (test x))) $ decide x (test x) refl) x₀
+        assigns t (tests x) (from t (stop t)) (stores t k none (empty x) (fits x (test x))) $ decide x (test x) refl) x₀
       where
         G : X → Post 𝓤 H
         G x = anyQ (afterTurn 𝓤 H (Below 𝓤 H A (λ y x. μ y < μ x) I x) (afterBlock 𝓤 H (afterSeq 𝓤 H (Wp 𝓤 H (𝓣 .C) (𝓣 .Λ) E rest (post 𝓤 H q)) (post 𝓤 H q))))
 
         decide : (x : X) (y : Bool) → test x ≡ y → Seq K W (with 𝓤 H A (I x) E k (vbool y)) (runs (𝓣 .C) (𝓣 .Λ) E (seq (cond (copy (place k [])) skip (exit 1)) turn) (G x))
-        decide x true e = stays t (load t (from t (stop t)) (look t (index k (I x)) (there x true))) $ more x e (G x) refl (λ y l. record { prf = again {W = W} t (λ y x. μ y < μ x) I x y l .prf })
-        decide x false e = leaves-loop t (load t (from t (stop t)) (look t (index k (I x)) (there x false))) $ record { prf = done x e .prf }
+        decide x true e = stays t (load t (from t (stop t)) (looked t k (there x true))) $ more x e (G x) refl (λ y l. record { prf = again {W = W} t (λ y x. μ y < μ x) I x y l .prf })
+        decide x false e = leaves-loop t (load t (from t (stop t)) (looked t k (there x false))) $ record { prf = done x e .prf }

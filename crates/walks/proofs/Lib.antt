@@ -12,6 +12,3 @@ pub mod Elements
 pub mod Arrays
 pub mod Calls
 pub mod Meets
-pub mod Slices
-pub mod SlicesMeet
-pub mod SlicesCall

@@ -4,10 +4,10 @@
 --     index k Γ        where local k stands in the context Γ. What stands before the first local (slices, tokens, what a call holds) is passed over, so no walk counts places
 --     front, cells, spots, Laid     what stands before the locals; what the locals hold, and where they lie, as the context shows it; and that the context is made of just these. `refl` shows it
 --     starts           a function is entered: its locals are laid out, and its arguments stored.        returns      it returns: its locals are freed
---     keeps            all but the first locals are forgotten.        written-out      the context is written out anew, and some locals forgotten
+--     keeps            all but the first locals are forgotten.
 --     opd, part        a local is read, and a field of one.        sets, sets-last, lands-in, lands-last      a local is written, by an assignment or by a call, in the midst of a block or at its end
 -- Assumes nothing. The rules of the logic, `Given`, are an argument of each law.
-use mathlib.Core.Path.{_≡_, refl, sym, subst}
+use mathlib.Core.Path.{_≡_, refl, sym, ap, _∙_, subst}
 use Prim.Native.Nat.{ℕ, zero, suc, _+_}
 use mathlib.Core.List.{List, [], _∷_, _++_, map}
 use mathlib.Core.Option.{some as just}
@@ -23,7 +23,7 @@ use prog.Memory.{fieldAt}
 use prog.Wp.{Heap, Env, Calls, Loops, WpFn, Spot, spotOf, atReturn, next, returns as returnsᴼ}
 use ghost.Atoms.{Atoms, sem}
 use types.Kit.{Given, Go, !, Item, ‵, raw, _⊛_, some, given, later, nth, put, Post, post, lands, settles, Goal, allocs, passes, params′, frees, runs, atRet, prop, Seq, Step, step, push, pop, mean, ⋆, ++⊢, _$_, move, drop, fsplit, fjoin}
-use types.Run.{Writes, Walks, alloc1, alloc0, params1, pass1, pass0, free1, free0, init, store, forget, enter, Opd, Opds, and-then, Rv, look, load, fld, from, stop, land, land-last, assigns, assigns-last, returns-within}
+use types.Run.{Reads, Writes, Walks, alloc1, alloc0, params1, pass1, pass0, free1, free0, init, store, forget, enter, Opd, Opds, and-then, Rv, look, load, fld, from, stop, land, land-last, assigns, assigns-last, returns-within}
 use types.Part.{Part, whole, sub, look-in}
 use denote.Steps.{nothing}
 
@@ -57,12 +57,6 @@ stored (v ∷ vs) = has v ∷ stored vs
 abbrev pub only : ℕ → List Cell → List Cell
 only zero cs = []
 only (suc n) cs = first cs ∷ only n (others cs)
-
--- those of cs, and those of ds where cs has nothing
-abbrev pub filled : List Cell → List Cell → List Cell
-filled [] ds = ds
-filled (none ∷ cs) ds = first ds ∷ filled cs (others ds)
-filled (has v ∷ cs) ds = has v ∷ filled cs (others ds)
 
 abbrev pub lay : List (Ty × ℕ) → List Cell → Fml
 lay [] cs = ftrue
@@ -145,11 +139,11 @@ module _ {M : Type 1} {𝓤 : URA M} where
 
   abbrev pub index : ℕ → List (Item 𝓤) → ℕ
   index k [] = k
-  index k (i ∷ Γ) = pick (sees i) (λ _ _. k) (suc (index k Γ))
+  index k (i ∷ Γ) = let there = suc (index k Γ) in pick (sees i) (λ _ _. k) there
 
   abbrev pub front : List (Item 𝓤) → List (Item 𝓤)
   front [] = []
-  front (i ∷ Γ) = pick (sees i) (λ _ _. []) (i ∷ front Γ)
+  front (i ∷ Γ) = let more = i ∷ front Γ in pick (sees i) (λ _ _. []) more
 
   -- the locals, from the first on, where nothing else stands between them
   abbrev run : List (Item 𝓤) → List ((Ty × ℕ) × Cell)
@@ -158,7 +152,7 @@ module _ {M : Type 1} {𝓤 : URA M} where
 
   abbrev locals : List (Item 𝓤) → List ((Ty × ℕ) × Cell)
   locals [] = []
-  locals (i ∷ Γ) = pick (sees i) (λ e c. (e, c) ∷ run Γ) (locals Γ)
+  locals (i ∷ Γ) = let more = locals Γ in pick (sees i) (λ e c. (e, c) ∷ run Γ) more
 
   abbrev pub spots : List (Item 𝓤) → List (Ty × ℕ)
   spots Γ = map (λ x. x .0) (locals Γ)
@@ -169,16 +163,42 @@ module _ {M : Type 1} {𝓤 : URA M} where
   abbrev pub Laid : List (Ty × ℕ) → List (Item 𝓤) → Type 2
   Laid E Γ = Γ ≡ front Γ ++ slots E (cells Γ) (‵ (deaths E) ∷ [])
 
+-- local k's entry, and the context with j there. Each names the context once: what a step's context names twice, the next step goes through twice, and the step after it four times
+module _ {M : Type 1} (𝓤 : URA M) (H : Heap 𝓤) (A : Atoms 𝓤) where
+  abbrev pub local-at : ℕ → List (Item 𝓤) → Item 𝓤
+  local-at k [] = ‵ ftrue
+  local-at k (i ∷ Γ) = let more = local-at k Γ in pick (sees i) (λ _ _. nth 𝓤 H A k (i ∷ Γ)) more
+
+  abbrev pub put-local : ℕ → Item 𝓤 → List (Item 𝓤) → List (Item 𝓤)
+  put-local k j [] = []
+  put-local k j (i ∷ Γ) = let more = i ∷ put-local k j Γ in pick (sees i) (λ _ _. put 𝓤 H A k j (i ∷ Γ)) more
+
+  seen-at : (x : Seen) (k n : ℕ) (i : Item 𝓤) (Γ : List (Item 𝓤)) {j : Item 𝓤} → nth 𝓤 H A n Γ ≡ j → nth 𝓤 H A (pick x (λ _ _. k) (suc n)) (i ∷ Γ) ≡ pick x (λ _ _. nth 𝓤 H A k (i ∷ Γ)) j
+  seen-at else k n i Γ e = e
+  seen-at (at y c) k n i Γ e = refl
+
+  pub at-index : (k : ℕ) (Γ : List (Item 𝓤)) → nth 𝓤 H A (index k Γ) Γ ≡ local-at k Γ
+  at-index k [] = refl
+  at-index k (i ∷ Γ) = seen-at (sees i) k (index k Γ) i Γ (at-index k Γ)
+
+  seen-put : (x : Seen) (k n : ℕ) (j i : Item 𝓤) (Γ : List (Item 𝓤)) {Δ : List (Item 𝓤)} → put 𝓤 H A n j Γ ≡ Δ → put 𝓤 H A (pick x (λ _ _. k) (suc n)) j (i ∷ Γ) ≡ pick x (λ _ _. put 𝓤 H A k j (i ∷ Γ)) (i ∷ Δ)
+  seen-put else k n j i Γ e = ap (λ (Θ : List (Item 𝓤)). i ∷ Θ) e
+  seen-put (at y c) k n j i Γ e = refl
+
+  pub put-index : (k : ℕ) (j : Item 𝓤) (Γ : List (Item 𝓤)) → put 𝓤 H A (index k Γ) j Γ ≡ put-local k j Γ
+  put-index k j [] = refl
+  put-index k j (i ∷ Γ) = seen-put (sees i) k (index k Γ) j i Γ (put-index k j Γ)
+
 module _ {M : Type 1} (𝓤 : URA M) (H : Heap 𝓤) (A : Atoms 𝓤) (Γ : List (Item 𝓤)) (E : Env 𝓤 H) (k : ℕ) where
   -- where local k lies; that the context has its cell; and the context with v in it
   abbrev here : Ty × ℕ
   here = (spotOf 𝓤 H E k .0, spotOf 𝓤 H E k .1)
 
   abbrev pub Shown : Type 2
-  Shown = nth 𝓤 H A (index k Γ) Γ ≡ ‵ (cell here (held (nth 𝓤 H A (index k Γ) Γ)))
+  Shown = local-at 𝓤 H A k Γ ≡ ‵ (cell here (held (local-at 𝓤 H A k Γ)))
 
   abbrev pub with : Val → List (Item 𝓤)
-  with v = put 𝓤 H A (index k Γ) (‵ (fat fullShare (spotOf 𝓤 H E k .0) (spotOf 𝓤 H E k .1) zero v)) Γ
+  with v = put-local 𝓤 H A k (‵ (fat fullShare (spotOf 𝓤 H E k .0) (spotOf 𝓤 H E k .1) zero v)) Γ
 
   abbrev pub Fits : Val → Type 0
   Fits v = T (hasTy (spotOf 𝓤 H E k .0) v) × WT v
@@ -204,13 +224,13 @@ module _ {M : Type 1} (𝓤 : URA M) (H : Heap 𝓤) (A : Atoms 𝓤) where
       via 𝓤 _ (via 𝓤 _ (pop 𝓤 H A (‵ c) (slots E (others cs) Γ)) (monoR 𝓤 (sem 𝓤 H A c) (via 𝓤 _ (back⊢ E (others cs) Γ) (pop 𝓤 H A (‵ l) Γ))))
       (via 𝓤 _ (assoc′ 𝓤 (sem 𝓤 H A c) (sem 𝓤 H A l) (⋆ 𝓤 H A Γ)) (push 𝓤 H A (‵ (fsep c l)) Γ))
 
-  pack⊢ : (Δ Γ : List (Item 𝓤)) → ent 𝓤 (⋆ 𝓤 H A (Δ ++ Γ)) (⋆ 𝓤 H A (raw (⋆ 𝓤 H A Δ) ∷ Γ))
+  pub pack⊢ : (Δ Γ : List (Item 𝓤)) → ent 𝓤 (⋆ 𝓤 H A (Δ ++ Γ)) (⋆ 𝓤 H A (raw (⋆ 𝓤 H A Δ) ∷ Γ))
   pack⊢ [] Γ = via 𝓤 _ (emp∗ 𝓤 (⋆ 𝓤 H A Γ)) (push 𝓤 H A (raw (⋆ 𝓤 H A [])) Γ)
   pack⊢ (i ∷ Δ) Γ =
       via 𝓤 _ (via 𝓤 _ (pop 𝓤 H A i (Δ ++ Γ)) (monoR 𝓤 (mean 𝓤 H A i) (via 𝓤 _ (pack⊢ Δ Γ) (pop 𝓤 H A (raw (⋆ 𝓤 H A Δ)) Γ))))
       (via 𝓤 _ (assoc′ 𝓤 (mean 𝓤 H A i) (⋆ 𝓤 H A Δ) (⋆ 𝓤 H A Γ)) (via 𝓤 _ (monoL 𝓤 (⋆ 𝓤 H A Γ) (push 𝓤 H A i Δ)) (push 𝓤 H A (raw (⋆ 𝓤 H A (i ∷ Δ))) Γ)))
 
-  unpack⊢ : (Δ Γ : List (Item 𝓤)) → ent 𝓤 (⋆ 𝓤 H A (raw (⋆ 𝓤 H A Δ) ∷ Γ)) (⋆ 𝓤 H A (Δ ++ Γ))
+  pub unpack⊢ : (Δ Γ : List (Item 𝓤)) → ent 𝓤 (⋆ 𝓤 H A (raw (⋆ 𝓤 H A Δ) ∷ Γ)) (⋆ 𝓤 H A (Δ ++ Γ))
   unpack⊢ Δ Γ = via 𝓤 _ (pop 𝓤 H A (raw (⋆ 𝓤 H A Δ)) Γ) (++⊢ 𝓤 H A Δ Γ)
 
 module _ {M : Type 1} {𝓤 : URA M} {H : Heap 𝓤} {A : Atoms 𝓤} {K : Type 0} {W : Given 𝓤 H A} where
@@ -243,12 +263,6 @@ module _ {M : Type 1} {𝓤 : URA M} {H : Heap 𝓤} {A : Atoms 𝓤} {K : Type 
   kept t zero (e ∷ E) cs = step (λ s. fsplit t $ emptied t e (first cs) $ move t (1 ∷ 0 ∷ []) $ kept t zero E (others cs) $ move t (1 ∷ 0 ∷ []) $ fjoin t $ s)
   kept t (suc n) (e ∷ E) cs = step (λ s. fsplit t $ move t (1 ∷ 0 ∷ []) $ kept t n E (others cs) $ move t (1 ∷ 0 ∷ []) $ fjoin t $ s)
 
-  thinned : K → {Γ : List (Item 𝓤)} {G : Goal 𝓤 H} (E : List (Ty × ℕ)) (cs ds : List Cell) → Step K W (‵ (lay E cs) ∷ Γ) G (‵ (lay E (filled cs ds)) ∷ Γ) G
-  thinned t [] cs ds = step (λ s. s)
-  thinned t (e ∷ E) [] ds = step (λ s. fsplit t $ emptied t e (first ds) $ move t (1 ∷ 0 ∷ []) $ thinned t E [] (others ds) $ move t (1 ∷ 0 ∷ []) $ fjoin t $ s)
-  thinned t (e ∷ E) (none ∷ cs) ds = step (λ s. fsplit t $ emptied t e (first ds) $ move t (1 ∷ 0 ∷ []) $ thinned t E cs (others ds) $ move t (1 ∷ 0 ∷ []) $ fjoin t $ s)
-  thinned t (e ∷ E) (has v ∷ cs) ds = step (λ s. fsplit t $ move t (1 ∷ 0 ∷ []) $ thinned t E cs (others ds) $ move t (1 ∷ 0 ∷ []) $ fjoin t $ s)
-
   -- a function's result is local 0, and its parameters are the locals after it
   pub starts : K → (Δ : List (Item 𝓤)) (C : Calls 𝓤 H) (Λ : Loops 𝓤 H) (f : Fn) (vs : List Val) (Kf : Val → SProp 𝓤) (l : Local) (ls : List Local) → f .locals ≡ l ∷ ls
       → ((bs : Blocks ls) → Suits (env ls bs) vs)
@@ -267,41 +281,44 @@ module _ {M : Type 1} {𝓤 : URA M} {H : Heap 𝓤} {A : Atoms 𝓤} {K : Type 
     pub keeps : K → {G : Goal 𝓤 H} (n : ℕ) → Laid (spots Γ) Γ → Step K W (front Γ ++ slots (spots Γ) (only n (cells Γ)) (‵ (deaths (spots Γ)) ∷ [])) G Γ G
     keeps t {G} n e = step (λ s. subst (λ (Δ : List (Item 𝓤)). Seq K W Δ G) (sym e) (gather t (front Γ) (spots Γ) (cells Γ) $ move t (1 ∷ []) $ kept t n (spots Γ) (cells Γ) $ move t (1 ∷ 0 ∷ []) $ spread t (front Γ) (spots Γ) (only n (cells Γ)) $ s))
 
-    -- the context written out: Δ stands before the locals, and they hold cs. What a local holds where cs has nothing is forgotten
-    pub written-out : K → {G : Goal 𝓤 H} (Δ : List (Item 𝓤)) (E : List (Ty × ℕ)) (cs : List Cell) → Γ ≡ Δ ++ slots E (filled cs (cells Γ)) (‵ (deaths E) ∷ []) → Step K W (Δ ++ slots E cs (‵ (deaths E) ∷ [])) G Γ G
-    written-out t {G} Δ E cs e = step (λ s. subst (λ (Θ : List (Item 𝓤)). Seq K W Θ G) (sym e) (gather t Δ E (filled cs (cells Γ)) $ move t (1 ∷ []) $ thinned t E cs (cells Γ) $ move t (1 ∷ 0 ∷ []) $ spread t Δ E cs $ s))
-
     -- a place that is written, whatever stands there
     writes : K → (n : ℕ) {e : Ty × ℕ} (c : Cell) {v : Val} → nth 𝓤 H A n Γ ≡ ‵ (cell e c) → T (hasTy (e .0) v) × WT v → Writes K W Γ (e .0) (e .1) zero v (put 𝓤 H A n (‵ (fat fullShare (e .0) (e .1) zero v)) Γ)
     writes t n none e ty = init t n e ty
     writes t n (has v) e ty = store t n e ty
 
+    -- local k is read, and written
+    pub looked : K → (k : ℕ) {q : Share} {τ : Ty} {b o : ℕ} {v : Val} → local-at 𝓤 H A k Γ ≡ ‵ (fat q τ b o v) → Reads K W Γ τ b o v
+    looked t k e = look t (index k Γ) (at-index 𝓤 H A k Γ ∙ e)
+
+    pub stores : K → (k : ℕ) {e : Ty × ℕ} (c : Cell) {v : Val} → local-at 𝓤 H A k Γ ≡ ‵ (cell e c) → T (hasTy (e .0) v) × WT v → Writes K W Γ (e .0) (e .1) zero v (put-local 𝓤 H A k (‵ (fat fullShare (e .0) (e .1) zero v)) Γ)
+    stores t k {e} c {v} is ty = subst (λ (Δ : List (Item 𝓤)). Writes K W Γ (e .0) (e .1) zero v Δ) (put-index 𝓤 H A k (‵ (fat fullShare (e .0) (e .1) zero v)) Γ) (writes t (index k Γ) c (at-index 𝓤 H A k Γ ∙ is) ty)
+
     module _ {E : Env 𝓤 H} where
-      pub opd : K → {k : ℕ} {q : Share} {v : Val} → nth 𝓤 H A (index k Γ) Γ ≡ ‵ (fat q (spotOf 𝓤 H E k .0) (spotOf 𝓤 H E k .1) zero v) → Opd K W Γ E (copy (place k [])) v
-      opd t {k} e = load t (from t (stop t)) (look t (index k Γ) e)
+      pub opd : K → {k : ℕ} {q : Share} {v : Val} → local-at 𝓤 H A k Γ ≡ ‵ (fat q (spotOf 𝓤 H E k .0) (spotOf 𝓤 H E k .1) zero v) → Opd K W Γ E (copy (place k [])) v
+      opd t {k} e = load t (from t (stop t)) (looked t k e)
 
       -- field j of a local. Each equation is by computation
-      pub part : K → {k j : ℕ} {q : Share} {ν : Sym} {τs : Tys} {l : ℕ} {vs : Vals} {τ : Ty} {o : ℕ} {v : Val} → nth 𝓤 H A (index k Γ) Γ ≡ ‵ (fat q (tyStruct ν τs) l zero (vstruct vs)) → spotOf 𝓤 H E k ≡ (tyStruct ν τs, l, zero)
+      pub part : K → {k j : ℕ} {q : Share} {ν : Sym} {τs : Tys} {l : ℕ} {vs : Vals} {τ : Ty} {o : ℕ} {v : Val} → local-at 𝓤 H A k Γ ≡ ‵ (fat q (tyStruct ν τs) l zero (vstruct vs)) → spotOf 𝓤 H E k ≡ (tyStruct ν τs, l, zero)
           → fieldAt zero τs j ≡ just (τ, o) → getV vs j ≡ v → Opd K W Γ E (copy (place k (field j ∷ []))) v
       part t {k} {j} {q} {ν} {τs} {l} {vs} {τ} {o} e at-k f is =
           subst (λ (w : Val). Opd K W Γ E (copy (place k (field j ∷ []))) w) is
           (load t (from t (subst (λ (s : Spot 𝓤 H). Walks K W Γ E s (field j ∷ []) (τ, l, zero + o)) (sym at-k) (fld t f (stop t))))
-          (look-in t (index k Γ) (subst (λ (i : Item 𝓤). Part K W i q τ l (zero + o) (getV vs j) (λ (u : Val). ‵ (fat q (tyStruct ν τs) l zero (vstruct (setV vs j u))))) (sym e) (sub t j f (whole t)))))
+          (look-in t (index k Γ) (subst (λ (i : Item 𝓤). Part K W i q τ l (zero + o) (getV vs j) (λ (u : Val). ‵ (fat q (tyStruct ν τs) l zero (vstruct (setV vs j u))))) (sym (at-index 𝓤 H A k Γ ∙ e)) (sub t j f (whole t)))))
 
       module _ {C : Calls 𝓤 H} {Λ : Loops 𝓤 H} {P : Post 𝓤 H} {k : ℕ} {v : Val} where
         pub sets : K → {rv : RValue} {rest : Body} → Rv K W Γ E rv v → Shown 𝓤 H A Γ E k → Fits 𝓤 H A Γ E k v → Step K W (with 𝓤 H A Γ E k v) (runs C Λ E rest P) Γ (runs C Λ E (seq (assign (place k []) rv) rest) P)
-        sets t r e ty = assigns t r (from t (stop t)) (writes t (index k Γ) (held (nth 𝓤 H A (index k Γ) Γ)) e ty)
+        sets t r e ty = assigns t r (from t (stop t)) (stores t k (held (local-at 𝓤 H A k Γ)) e ty)
 
         pub sets-last : K → {rv : RValue} → Rv K W Γ E rv v → Shown 𝓤 H A Γ E k → Fits 𝓤 H A Γ E k v → Step K W (with 𝓤 H A Γ E k v) (prop (post 𝓤 H P next)) Γ (runs C Λ E (assign (place k []) rv) P)
-        sets-last t r e ty = assigns-last t r (from t (stop t)) (writes t (index k Γ) (held (nth 𝓤 H A (index k Γ) Γ)) e ty)
+        sets-last t r e ty = assigns-last t r (from t (stop t)) (stores t k (held (local-at 𝓤 H A k Γ)) e ty)
 
         pub lands-in : K → {rest : Body} → Shown 𝓤 H A Γ E k → Fits 𝓤 H A Γ E k v → Step K W (with 𝓤 H A Γ E k v) (runs C Λ E rest P) Γ (lands C Λ E (place k []) v rest P)
-        lands-in t e ty = land t (from t (stop t)) (writes t (index k Γ) (held (nth 𝓤 H A (index k Γ) Γ)) e ty)
+        lands-in t e ty = land t (from t (stop t)) (stores t k (held (local-at 𝓤 H A k Γ)) e ty)
 
       pub lands-last : K → {P : Post 𝓤 H} {k : ℕ} {v : Val} → Shown 𝓤 H A Γ E k → Fits 𝓤 H A Γ E k v → Step K W (with 𝓤 H A Γ E k v) (prop (post 𝓤 H P next)) Γ (settles E (place k []) v P)
-      lands-last t {k = k} e ty = land-last t (from t (stop t)) (writes t (index k Γ) (held (nth 𝓤 H A (index k Γ) Γ)) e ty)
+      lands-last t {k = k} e ty = land-last t (from t (stop t)) (stores t k (held (local-at 𝓤 H A k Γ)) e ty)
 
       -- `return`, anywhere in the function. Kf is what its caller waits for; that it is what the code here returns to is `refl`, or what the branches and loops around it hand down
       pub returns : K → {C : Calls 𝓤 H} {Λ : Loops 𝓤 H} {q : Post 𝓤 H} (Kf : Val → SProp 𝓤) {p : Share} {r : Val} → post 𝓤 H q returnsᴼ ≡ atReturn 𝓤 H E Kf returnsᴼ
-          → nth 𝓤 H A (index zero Γ) Γ ≡ ‵ (fat p (spotOf 𝓤 H E zero .0) (spotOf 𝓤 H E zero .1) zero r) → Laid E Γ → Step K W (front Γ ++ []) (prop (Kf r)) Γ (runs C Λ E return q)
-      returns t Kf {r = r} to e l = step (λ s. returns-within t Kf to (look t (index zero Γ) e) $ subst (λ (Δ : List (Item 𝓤)). Seq K W Δ (frees E (prop (Kf r)))) (sym l) (leaves t (front Γ) E (cells Γ) $ s))
+          → local-at 𝓤 H A zero Γ ≡ ‵ (fat p (spotOf 𝓤 H E zero .0) (spotOf 𝓤 H E zero .1) zero r) → Laid E Γ → Step K W (front Γ ++ []) (prop (Kf r)) Γ (runs C Λ E return q)
+      returns t Kf {r = r} to e l = step (λ s. returns-within t Kf to (looked t zero e) $ subst (λ (Δ : List (Item 𝓤)). Seq K W Δ (frees E (prop (Kf r)))) (sym l) (leaves t (front Γ) E (cells Γ) $ s))
