@@ -27,7 +27,7 @@ fn amount(attribute: Amount) -> u32
     so_much
 }
 
-fn is_payable(points: u32, n: u8) -> bool
+pub fn is_payable(points: u32, n: u8) -> bool
     ensures { λ r. ⌜ r ≡ affordable points (attributesOf n .«cp_cost») ⌝ }
 {
     let row = action::attributes_of(n);
