@@ -56,27 +56,6 @@ pub fn keep_payable(points: u32, set: u32) -> u32
     kept
 }
 
-// The same for every other caller.
-pub fn keep_payable_single(points: u32, set: u32) -> u32
-    requires { ⌜ SetIn set ⌝ }
-    ensures { λ r. ⌜ (r ≡ keepOf (λ n. affordable points (attributesOf n .«cp_cost»)) set) × SetIn r ⌝ }
-{
-    if points >= action::DEAREST {
-        return set;
-    }
-    let mut kept = set;
-    let mut remaining = set;
-    while remaining != 0 {
-        let n = bits::next(remaining);
-        let b = bits::bit(n);
-        remaining -= b;
-        if !is_payable(points, n) {
-            kept -= b;
-        }
-    }
-    kept
-}
-
 fn efficiency_of(n: u8) -> u32
     requires { ⌜ n < actions ⌝ }
     ensures { λ r. ⌜ (r ≡ amountOf (attributesOf n .«progress_efficiency»)) × (r ≤ progressMost) ⌝ }

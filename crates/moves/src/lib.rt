@@ -10,7 +10,6 @@ mod single;
 mod strict;
 
 pub use at_once::moves_at_once;
-pub use at_once::strict_at_once;
 pub use legal::has_ended;
 pub use legal::is_legal;
 pub use legal::legal_moves;

@@ -81,14 +81,3 @@ pub fn score(context: CraftContext, state: CraftState) -> f32
     }
     weighed(context, state)
 }
-
-// The same for every other caller.
-pub fn score_single(context: CraftContext, state: CraftState) -> f32
-    requires { ⌜ CraftIn context state ⌝ }
-    ensures { λ r. ⌜ (r ≡ scoreOf context state) × T (not (isNan r)) ⌝ }
-{
-    if context.quality_target == 0 {
-        return fewer_steps(state.step, context.step_max);
-    }
-    weighed(context, state)
-}
