@@ -2,7 +2,6 @@
 -- no path written"; "The number of draws used is reported and equals what the definition consumes, a refused iteration's draws not counted".
 -- Assumes nothing.
 use mathlib.Core.Path.{_≡_}
-use mathlib.Core.Bool.{cond}
 use mathlib.Core.List.{List, [], _∷_, _++_}
 use Prim.Native.Nat.{ℕ, zero, suc, _+_}
 use lib.Ieee.{Float}
@@ -12,7 +11,7 @@ use Rattle.refusal.specs.declared.Checked.{Checked}
 use Rattle.refusal.specs.declared.Checked.the-variants as K
 use Rattle.refusal.specs.declared.Report.{Report}
 use Rattle.refusal.specs.Report.{reportOf, success}
-use Rattle.refusal.specs.Judge.{Test, judged, checksOf, roomTest}
+use Rattle.refusal.specs.Judge.{Test, judged, roomTest}
 use Rattle.text.specs.Over.{over}
 use Rattle.craft_context.specs.declared.context.CraftContext.{CraftContext}
 use Rattle.craft_context.specs.Limits.{contextTests}

@@ -15,7 +15,6 @@ use Rattle.craft_context.specs.declared.context.CraftContext.{CraftContext}
 use Rattle.craft_state.specs.declared.state.CraftState.{CraftState}
 use Rattle.step.specs.Step.{executeOf}
 use Rattle.score.specs.Result.{judgedBy}
-use Rattle.rollout.specs.declared.draws.Drawn.{Drawn}
 use Rattle.rollout.specs.declared.draws.Drawn.the-variants as D
 use Rattle.rollout.specs.declared.rollout.Rolled.{Rolled}
 use Rattle.rollout.specs.declared.rollout.Rolled.the-variants as R

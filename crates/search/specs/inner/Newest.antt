@@ -6,7 +6,7 @@ use mathlib.Core.List.{List}
 use Prim.Native.Nat.{ℕ, zero, suc, _+_, _≤_, _<_}
 use lib.ListN.{length}
 use Rattle.tree.specs.declared.node.Node.{Node}
-use Rattle.tree.specs.Tree.{nodeAt, isChild, Falls}
+use Rattle.tree.specs.Tree.{nodeAt, isChild}
 use Rattle.rates.specs.declared.Best.{Best}
 use Rattle.rates.specs.declared.Weights.{Weights}
 use Rattle.rates.specs.Best.{betterOf}

@@ -9,7 +9,7 @@ use Prim.Native.Nat.{ℕ, zero, suc, _+_, _≤_, _<_}
 use native.Mathlib.Nat.{eq-or-lt-of-le, le-refl}
 use native.Mathlib.Numerals.{add-one}
 use native.Mathlib.Omega.{arith}
-use lib.Dec.{T, eqb, leb, ltb}
+use lib.Dec.{T, leb, ltb}
 use lib.Ieee.{Float, lt, le}
 use lib.Ieee.Scale.{finite}
 use borrow.Author.Tests.{ltb-true, lt-ltb, leb-true, leb-false, ne-eqb, not-false}

@@ -3,7 +3,6 @@
 use mathlib.Core.Path.{_≡_, refl, sym, ap, _∙_}
 use mathlib.Core.List.{List}
 use Prim.Native.Nat.{ℕ, _<_}
-use native.Mathlib.Omega.{arith}
 use lib.Ieee.{Float}
 use Rattle.action.specs.Table.{attributesOf}
 use Rattle.craft_context.specs.declared.context.CraftContext.{CraftContext}
@@ -15,7 +14,6 @@ use Rattle.tree.specs.declared.node.Node.{Node}
 use Rattle.tree.specs.Tree.{nodeAt, Falls}
 use Rattle.tree.specs.laws.Tree.{tree-falls}
 use Rattle.search.specs.declared.options.SearchOptions.{SearchOptions}
-use Rattle.search.specs.declared.select.Chosen.{Chosen}
 use Rattle.search.specs.Select.{nextOf, selectIn, selectOf, stateAt}
 use Rattle.search.specs.inner.Ready.{Ready, chosenOf}
 use Rattle.search.specs.laws.States.{state-root}

@@ -2,9 +2,8 @@
 -- Assumes nothing.
 use mathlib.Core.Path.{_≡_, refl, sym, ap, subst, _∙_}
 use mathlib.Core.Bool.{true}
-use mathlib.Core.List.{List, [], _∷_}
-use mathlib.Core.Logic.{⊎-elim}
-use Prim.Native.Nat.{ℕ, zero, suc, _+_, _-_, _≤_, _<_}
+use mathlib.Core.List.{List}
+use Prim.Native.Nat.{ℕ, suc, _+_, _-_, _≤_, _<_}
 use native.Mathlib.Nat.{add-zero}
 use native.Mathlib.Numerals.{add-one}
 use native.Mathlib.Omega.{arith}
@@ -30,7 +29,7 @@ use Rattle.tree.specs.Tree.{nodeAt}
 use Rattle.search.specs.Select.{stateAt}
 use Rattle.search.specs.Iterate.{belowOf, storeOf, lastStored}
 use Rattle.search.specs.inner.Grown.{Growing}
-use Rattle.search.specs.inner.Links.{Links, linkOf}
+use Rattle.search.specs.inner.Links.{linkOf}
 use Rattle.search.specs.inner.Ready.{Drawable, Storing, Stores}
 use Rattle.search.specs.laws.Below.{below-length, below-new, below-state, below-growing}
 use Rattle.search.specs.laws.Legal.{unused-set, unused-known, unused-plain}

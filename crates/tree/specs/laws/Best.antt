@@ -2,25 +2,21 @@
 -- where there is a child there is one to which all give way, and no second.
 -- Assumes nothing.
 use mathlib.Core.Path.{_≡_, refl, sym, _∙_}
-use mathlib.Core.Bool.{Bool, true, false, not, cond, _&&_, _||_}
+use mathlib.Core.Bool.{Bool, true, false, not, cond, _&&_}
 use mathlib.Core.List.{List, [], _∷_}
 use mathlib.Core.Logic.{_⊎_, inl, inr}
-use Prim.Native.Nat.{ℕ, zero, suc, _+_, _*_, _≤_, _<_}
-use native.Mathlib.Nat.{le-of-lt}
+use Prim.Native.Nat.{ℕ, zero, suc, _+_, _≤_, _<_}
 use native.Mathlib.Numerals.{add-one}
 use native.Mathlib.Omega.{arith}
 use lib.Dec.{T, leb, eqb, ltb, eqb·suc-zero}
-use lib.Ieee.{Float, nan, inf, fin, up, down, lt, eq, le, ofInt}
-use lib.Ieee.Bits.{is-true}
+use lib.Ieee.{Float, nan, inf, fin, lt, eq, le, ofInt}
 use lib.Ieee.Scale.{finite}
-use borrow.Author.Tests.{leb-true, leb-false, le-leb, ltb-true, ltb-false, lt-ltb, eqb-true, eqb-false, eq-eqb, ne-eqb, not-true}
-use Rattle.laws.specs.Floats.{one}
+use borrow.Author.Tests.{leb-true, leb-false, ltb-true, lt-ltb, eqb-true, eqb-false, eq-eqb, ne-eqb, not-true}
 use Rattle.laws.specs.Lists.{elem}
-use Rattle.laws.specs.laws.Tests.{true-false, both, neither, and-both, and-true, or-true}
+use Rattle.laws.specs.laws.Tests.{true-false, both, neither, and-both}
 use Rattle.laws.specs.laws.Order.{le-same, le-through, lt-le, not-le-lt}
 use Rattle.tree.specs.declared.node.Node.{Node}
 use Rattle.tree.specs.declared.best.Best.{Best}
-use Rattle.tree.specs.Node.{plusZero}
 use Rattle.tree.specs.Sound.{isMaximum}
 use Rattle.tree.specs.Tree.{nodeAt, Falls, isChild, childrenOf, yields, allYield, bestIn, maxAt, bestOf}
 use Rattle.tree.specs.inner.Best.{noBest, taken, isBetter, pickOf, bestTo}

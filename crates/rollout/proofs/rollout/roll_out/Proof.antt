@@ -1,6 +1,6 @@
 -- `rollout::rollout::roll_out` meets its contract.
 -- Assumes nothing.
-use mathlib.Core.Path.{_≡_, refl, sym, ap, subst, _∙_}
+use mathlib.Core.Path.{_≡_, refl, sym, ap, _∙_}
 use mathlib.Core.Bool.{true}
 use mathlib.Core.List.{List}
 use Prim.Native.Nat.{ℕ, _+_, _-_, _≤_, _<_}
@@ -137,8 +137,8 @@ strictly c =
       inside = kept (c .before);
       known = c .strict-at-once .ensures .1;
       legal = λ n t.
-      let is : has (movesOf (context k) next strict) n ≡ true = ap (λ (set : ℕ). has set n) (sym (c .strict-at-once .ensures .0)) ∙ t in
-      strict-part attributesOf (context k) next n (legal-known attributesOf (context k) next strict n is) is;
+          let is : has (movesOf (context k) next strict) n ≡ true = ap (λ (set : ℕ). has set n) (sym (c .strict-at-once .ensures .0)) ∙ t in
+          strict-part attributesOf (context k) next n (legal-known attributesOf (context k) next strict n is) is;
     }
 
 loop-again : tie.Need-loop-again Inv-loop μ-loop
