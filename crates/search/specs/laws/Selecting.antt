@@ -3,7 +3,6 @@
 use mathlib.Core.Path.{_≡_, refl, sym, ap, _∙_}
 use mathlib.Core.List.{List}
 use Prim.Native.Nat.{ℕ, _<_}
-use native.Mathlib.Omega.{arith}
 use lib.Ieee.{Float}
 use Rattle.action.specs.Table.{attributesOf}
 use Rattle.craft_context.specs.declared.context.CraftContext.{CraftContext}
@@ -15,7 +14,6 @@ use Rattle.tree.specs.declared.node.Node.{Node}
 use Rattle.tree.specs.Tree.{nodeAt, Falls}
 use Rattle.tree.specs.laws.Tree.{tree-falls}
 use Rattle.search.specs.declared.options.SearchOptions.{SearchOptions}
-use Rattle.search.specs.declared.select.Chosen.{Chosen}
 use Rattle.search.specs.Select.{nextOf, selectIn, selectOf, stateAt}
 use Rattle.search.specs.inner.Ready.{Ready, chosenOf}
 use Rattle.search.specs.laws.States.{state-root}
@@ -28,7 +26,8 @@ pub record At (c : CraftContext) (o : SearchOptions) (logs : List Float) (nodes 
   pub next-is : next ≡ nextOf o logs nodes count k
   pub end : selectIn count o logs nodes count k ≡ selectOf o logs nodes count
 
-module _ {c : CraftContext} {o : SearchOptions} {logs : List Float} {nodes : List Node} {count : ℕ} {links : List ℕ} (r : Ready c o logs nodes count links) where
+module _ {c : CraftContext} {o : SearchOptions} {logs : List Float} {nodes : List Node} {count : ℕ} {links : List ℕ}
+    (r : Ready c o logs nodes count links) where
   falls : Falls nodes count
   falls = tree-falls (r .growing .tree)
 

@@ -7,7 +7,6 @@ use denote.Builtin.{f32}
 use Rattle.rates.specs.declared.Best.{Best}
 use Rattle.rates.specs.declared.Weights.{Weights}
 use Rattle.rates.specs.Best.{noBest}
-use Rattle.rates.specs.inner.Holds.{Holds}
 use Rattle.rates.proofs.Best as B
 use Rattle.rates.proofs.Best.Laws as B′
 use Rattle.tree.specs.declared.node.Node.{Node}
@@ -16,12 +15,11 @@ use Rattle.tree.proofs.node.Node as T
 use Rattle.tree.proofs.node.Node.Laws as T′
 use Rattle.search.specs.declared.options.SearchOptions.{SearchOptions}
 use Rattle.search.specs.Select.{lnOf, weightsOf}
-use Rattle.search.specs.inner.Links.{lastLink, topOf}
 use Rattle.search.specs.inner.Newest.{bestDown, Late, Linked}
 use Rattle.search.specs.inner.Ready.{Logged}
 use Rattle.search.specs.laws.Indexed.{index-asks, index-best}
 use Rattle.search.specs.laws.Rating.{next-best, next-none}
-use Rattle.walks.proofs.Walking.{_≡_, refl, sym, ap, _∙_, subst, true, false, ℕ, _+_, _<_, _^_, arith, List, [], _∷_, eqb, lit<, not-true, not-false, tables, _$_, !, lit, of-opd, no-more, cited, f32′, opd, part, _&_, sets, lands-in, returns, guards, of-shr, then, calls-plain, slices-proved, pass-shr, calls-slices}
+use Rattle.walks.proofs.Walking.{_≡_, refl, sym, ap, _∙_, subst, true, false, ℕ, _+_, _<_, _^_, arith, [], _∷_, eqb, lit<, not-true, not-false, tables, _$_, !, lit, of-opd, no-more, cited, f32′, opd, part, _&_, sets, lands-in, returns, guards, of-shr, then, calls-plain, slices-proved, pass-shr, calls-slices}
 use Rattle.tree.proofs.Types.{node′, node-at′}
 use Rattle.search.proofs.TypesSelect.{best′, has-unused′, weights-at′, best-late′, last-child′, best-linked′, next-child′}
 use Rattle.tree.proofs.node_at.Symbol as node-at

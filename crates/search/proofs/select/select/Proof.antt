@@ -14,7 +14,6 @@ use Rattle.craft_state.proofs.state.CraftState as C
 use Rattle.step.specs.Step.{executeOf}
 use Rattle.step.specs.inner.Asked.{Playable}
 use Rattle.tree.specs.declared.node.Node.{Node}
-use Rattle.tree.specs.Tree.{nodeAt}
 use Rattle.tree.specs.laws.Descent.{some}
 use Rattle.tree.proofs.node.Node as T
 use Rattle.tree.proofs.node.Node.Laws as T′
