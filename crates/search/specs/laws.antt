@@ -2,11 +2,11 @@ pub mod States
 pub mod Options
 pub mod Taken
 pub mod Moves
+pub mod Legal
 pub mod Below
 pub mod Stored
 pub mod Asked
 pub mod Planted
-pub mod Legal
 pub mod Rated
 pub mod Descend
 pub mod Newest
@@ -19,3 +19,4 @@ pub mod Touched
 pub mod Iterate
 pub mod Path
 pub mod Search
+pub mod Answer

@@ -9,13 +9,13 @@ use Prim.Native.Nat.{ℕ, zero, suc, _+_, _≤_, _<_}
 use native.Mathlib.Nat.{eq-or-lt-of-le, le-refl}
 use native.Mathlib.Numerals.{add-one}
 use native.Mathlib.Omega.{arith}
-use lib.Dec.{T, leb, ltb}
+use lib.Dec.{T, leb}
 use lib.Ieee.{Float, lt, le}
 use lib.Ieee.Scale.{finite}
-use borrow.Author.Tests.{ltb-true, lt-ltb, leb-true, leb-false, ne-eqb, not-false}
+use borrow.Author.Tests.{lt-ltb, leb-true, leb-false, ne-eqb, not-false}
 use Rattle.laws.specs.Lists.{elem}
 use Rattle.laws.specs.laws.Order.{le-same, lt-le, lt-after, lt-or-ge}
-use Rattle.laws.specs.laws.Tests.{true-false, both, and-both, either}
+use Rattle.laws.specs.laws.Tests.{true-false, and-both, either}
 use Rattle.rates.specs.declared.Best.{Best}
 use Rattle.rates.specs.declared.Weights.{Weights}
 use Rattle.rates.specs.Best.{noBest, rateOf, childOf, betterOf}
@@ -33,7 +33,7 @@ use Rattle.search.specs.Select.{lnOf, weightsOf, rateAt}
 use Rattle.search.specs.inner.Grown.{Visited}
 use Rattle.search.specs.inner.Newest.{betterNode, betterChild, bestDown}
 use Rattle.search.specs.laws.Asked.{Asked}
-use Rattle.search.specs.laws.Descend.{picked-child}
+use Rattle.search.specs.laws.Descend.{child-listed, picked-child}
 use Rattle.search.specs.laws.Rated.{child-finite}
 
 module _ (weights : Weights) (nodes : List Node) (parent : ℕ) where
@@ -167,9 +167,7 @@ module _ (weights : Weights) (nodes : List Node) (parent : ℕ) where
       -- ---- THE theorem
 
       listed : (j : ℕ) → elem (childrenOf count nodes parent) j ≡ true → (j < count) × Child j
-      listed j e =
-          let is = both (ltb j count) (isChild j (nodeAt nodes j) parent) (sym (children-each nodes parent count j) ∙ e) in
-          (ltb-true j count (is .0), is .1)
+      listed = child-listed nodes count parent
 
       abbrev walked : Best
       walked = bestDown weights nodes parent count noBest
