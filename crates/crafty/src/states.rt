@@ -80,7 +80,7 @@ pub fn score(context: CraftContext, state: CraftState) -> Scored
     if let Checked::Refused(x) = given {
         return Scored::Refused(x);
     }
-    Scored::Score(score::score(context, state))
+    Scored::Score(score::score_single(context, state))
 }
 
 // The line of a state: rendered into a room of its own, which is always enough, and then written.

@@ -8,11 +8,9 @@ ghost use Rattle.action.specs.Table.{attributesOf};
 ghost use Rattle.action_set.specs.Sets.{SetIn, keepOf};
 ghost use Rattle.craft_state.specs.Inside.{CraftIn};
 ghost use Rattle.moves.specs.Rules.{mayProgress};
-ghost use Rattle.moves.specs.inner.Sets.{amountOf, finishesWith};
-use super::sets::PROGRESS;
+ghost use Rattle.moves.specs.inner.Sets.{amountOf, finishesWith, finishingOf};
 use super::sets::PURE_PROGRESS;
 use super::sets::unless;
-use super::sets::within;
 use super::strict::QUALITY_PART;
 use action::Amount;
 use action_set::bits;
@@ -29,7 +27,7 @@ fn amount(attribute: Amount) -> u32
     so_much
 }
 
-fn is_payable(points: u32, n: u8) -> bool
+pub fn is_payable(points: u32, n: u8) -> bool
     ensures { λ r. ⌜ r ≡ affordable points (attributesOf n .«cp_cost») ⌝ }
 {
     let row = action::attributes_of(n);
@@ -37,7 +35,7 @@ fn is_payable(points: u32, n: u8) -> bool
     amount(cost) <= points
 }
 
-// The full price, as `can_pay`. Points for the dearest are enough for all.
+// The full price, as `can_pay`. Points for the dearest are enough for all. For the loop of replay alone, as `step::execute`.
 pub fn keep_payable(points: u32, set: u32) -> u32
     requires { ⌜ SetIn set ⌝ }
     ensures { λ r. ⌜ (r ≡ keepOf (λ n. affordable points (attributesOf n .«cp_cost»)) set) × SetIn r ⌝ }
@@ -81,7 +79,7 @@ fn finishes(context: CraftContext, state: CraftState, n: u8) -> bool
     state.progress + gain >= context.progress_target
 }
 
-fn keep_finishing(context: CraftContext, state: CraftState, set: u32) -> u32
+pub fn keep_finishing(context: CraftContext, state: CraftState, set: u32) -> u32
     requires { ⌜ CraftIn context state × SetIn set ⌝ }
     ensures { λ r. ⌜ (r ≡ keepOf (λ n. finishesWith context state (amountOf (attributesOf n .«progress_efficiency»))) set) × SetIn r ⌝ }
 {
@@ -99,11 +97,10 @@ fn keep_finishing(context: CraftContext, state: CraftState, set: u32) -> u32
 }
 
 // `may_progress`: of those that finish, and of those that do not.
-pub fn progress_moves(context: CraftContext, state: CraftState, set: u32) -> u32
-    requires { ⌜ CraftIn context state × SetIn set ⌝ }
+pub fn progress_moves(context: CraftContext, state: CraftState, set: u32, finish: u32) -> u32
+    requires { ⌜ SetIn set × (finish ≡ finishingOf context state set) ⌝ }
     ensures { λ r. ⌜ (r ≡ keepOf (λ n. mayProgress context state (attributesOf n .«progress_efficiency») (attributesOf n .«quality_efficiency»)) set) × SetIn r ⌝ }
 {
-    let finish = keep_finishing(context, state, within(set, PROGRESS));
     let part = context.quality_target / QUALITY_PART;
     let set = unless(set, finish, state.quality >= part);
     let work = unless(PURE_PROGRESS, finish, false);

@@ -5,11 +5,13 @@ ghost use Rattle.action_set.specs.Sets.{SetIn, keepOf};
 ghost use Rattle.craft_state.specs.Inside.{CraftIn};
 ghost use Rattle.moves.specs.Moves.{movesOf};
 ghost use Rattle.moves.specs.inner.Sets.{strictBeyond};
+use super::amounts::keep_finishing;
 use super::amounts::keep_payable;
 use super::amounts::progress_moves;
 use super::legal::has_ended;
 use super::mode::Mode;
 use super::sets::ONLY_TRAINED_EYE;
+use super::sets::PROGRESS;
 use super::sets::QUALITY;
 use super::sets::kind_moves;
 use super::sets::own_moves;
@@ -30,10 +32,11 @@ fn strict_part(context: CraftContext, state: CraftState, set: u32) -> u32
     }
     let strict = strict_moves(context, state, set);
     let kind = kind_moves(context, state, strict);
-    progress_moves(context, state, kind)
+    let finish = keep_finishing(context, state, within(kind, PROGRESS));
+    progress_moves(context, state, kind, finish)
 }
 
-// The rules of `allowed`, in another order: the price, which is a walk, comes last.
+// The rules of `allowed`, in another order: the price, which is a walk, comes last. For the loop of replay alone, as `step::execute`.
 pub fn moves_at_once(context: CraftContext, state: CraftState, mode: Mode) -> u32
     requires { ⌜ CraftIn context state ⌝ }
     ensures { λ r. ⌜ (r ≡ movesOf context state mode) × SetIn r ⌝ }

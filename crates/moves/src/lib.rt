@@ -6,6 +6,7 @@ mod legal;
 mod mode;
 mod own;
 mod sets;
+mod single;
 mod strict;
 
 pub use at_once::moves_at_once;
@@ -15,3 +16,4 @@ pub use legal::legal_moves;
 pub use legal::passes;
 pub use mode::Mode;
 pub use mode::mode_of;
+pub use single::strict_at_once;

@@ -1,2 +1,4 @@
+pub mod Draws
 pub mod Rollout
+pub mod inner
 pub mod laws

@@ -1,1 +1,4 @@
+pub mod Draws
+pub mod Rollout
 pub mod RolledSampled
+pub mod Worked

@@ -3,6 +3,7 @@ ghost use mathlib.Core.Path.{_≡_};
 ghost use Rattle.craft_state.specs.Inside.{CraftIn};
 ghost use Rattle.score.specs.Result.{judgedBy, resultOf, ScoreIsNumber};
 use super::scoring::score;
+use super::single::judge_single;
 use craft_context::CraftContext;
 use craft_state::CraftState;
 use moves::Mode;
@@ -17,7 +18,7 @@ pub enum CraftResult {
     Continuing,
 }
 
-// By the state's legal moves.
+// By the state's legal moves. For the loop of replay alone, as `step::execute`.
 pub fn judge(context: CraftContext, state: CraftState, moves: u32) -> CraftResult
     requires { ⌜ CraftIn context state ⌝ }
     ensures { λ r. ⌜ (r ≡ judgedBy context state moves) × ScoreIsNumber r ⌝ }
@@ -44,5 +45,5 @@ pub fn check_result(context: CraftContext, state: CraftState, mode: Mode) -> Cra
     requires { ⌜ CraftIn context state ⌝ }
     ensures { λ r. ⌜ (r ≡ resultOf context state mode) × ScoreIsNumber r ⌝ }
 {
-    judge(context, state, moves::legal_moves(context, state, mode))
+    judge_single(context, state, moves::legal_moves(context, state, mode))
 }

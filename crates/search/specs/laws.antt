@@ -20,3 +20,4 @@ pub mod Iterate
 pub mod Path
 pub mod Search
 pub mod Answer
+pub mod Storing

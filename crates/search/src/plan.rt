@@ -1,10 +1,15 @@
 // What an iteration will do, worked out before any record is touched: so one that is refused stores nothing.
 ghost use mathlib.Core.Path.{_≡_};
 ghost use Prim.Native.Nat.{_+_, _≤_, _<_, _^_};
+ghost use lib.ListN.{length};
+ghost use Rattle.rollout.specs.inner.Movable.{Movable};
 ghost use Rattle.search.specs.Iterate.{scoreIn, isWorth, storedOf};
-ghost use Rattle.search.specs.inner.Ready.{refusedPlan, planRoom};
+ghost use Rattle.search.specs.inner.Ready.{refusedPlan, planRoom, planOf};
+use craft_context::CraftContext;
+use craft_state::CraftState;
 use refusal::Checked;
 use refusal::Refusal;
+use rollout::Rolled;
 use score::CraftResult;
 
 // How many records are stored, the score that is propagated from the last of them, and the place of the next draw; or a refusal.
@@ -78,5 +83,30 @@ fn in_room(count: usize, records: usize, result: CraftResult, end: usize, stored
         stored,
         score: score_in(result),
         at: end,
+    }
+}
+
+// The rollout's first draw is of the record's unused moves; with none of them it ends where it starts.
+pub fn planned(
+    draws: &[u8],
+    context: CraftContext,
+    threshold: f32,
+    state: CraftState,
+    unused: u32,
+    best: f32,
+    count: usize,
+    records: usize,
+    at: usize,
+) -> Plan
+    requires { ⌜ Movable context state unused × (at ≤ length (now draws)) × (count ≤ records) × (records + length (now draws) < 2 ^ 64) ⌝ }
+    ensures { λ r. ⌜ r ≡ planOf context threshold state unused best count records at (now (draws .entry)) ⌝ }
+{
+    let rolled = rollout::roll_out(context, state, unused, draws, at);
+    match rolled {
+        Rolled::Refused(x) => refused(x),
+        Rolled::Ended(result, end) => {
+            let whole = is_worth(threshold, best, result);
+            in_room(count, records, result, end, stored_of(whole, end - at))
+        }
     }
 }

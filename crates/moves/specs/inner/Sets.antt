@@ -5,11 +5,13 @@ use Prim.Native.Nat.{ℕ, _+_}
 use lib.Dec.{eqb, leb}
 use Rattle.laws.specs.Bits.{has}
 use Rattle.action.specs.Actions as A
+use Rattle.action.specs.Amount.{present}
 use Rattle.action.specs.Gain.{progressGainOf}
+use Rattle.action.specs.Table.{attributesOf}
 use Rattle.action.specs.declared.table.Amount.{Amount}
 use Rattle.action.specs.declared.table.Amount.the-variants.{Of, Nothing}
 use Rattle.action.specs.declared.table.Attributes.{Attributes}
-use Rattle.action_set.specs.Sets.{keepOf}
+use Rattle.action_set.specs.Sets.{setOf, keepOf}
 use Rattle.craft_context.specs.declared.context.CraftContext.{CraftContext}
 use Rattle.craft_state.specs.declared.state.CraftState.{CraftState}
 use Rattle.moves.specs.Rules.{eyeAlone, outsideMemory, outsideVeneration, afterObserve, mayProgress, strictRule}
@@ -34,6 +36,12 @@ amountOf Nothing = 0
 abbrev pub finishesWith : CraftContext → CraftState → ℕ → Bool
 finishesWith c s efficiency =
     leb (c .«progress_target») (s .progress + progressGainOf (c .«base_progress_factor») efficiency (s .buffs .veneration) (s .buffs .«muscle_memory»))
+
+-- those of a set that have progress and finish with it
+abbrev pub finishingOf : CraftContext → CraftState → ℕ → ℕ
+finishingOf c s set =
+    keepOf (λ n. finishesWith c s (amountOf (attributesOf n .«progress_efficiency»)))
+    (keepOf (has (setOf (λ n. present (attributesOf n .«progress_efficiency»)))) set)
 
 -- what strict mode asks beyond an action's own rule
 abbrev pub strictBeyond : CraftContext → CraftState → ℕ → Attributes → Bool

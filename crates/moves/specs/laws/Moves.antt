@@ -59,13 +59,16 @@ module _ (rows : Rows) (c : CraftContext) (s : CraftState) (mode : Mode) where
       by false = has-keep actions (c .«action_pool» .0) (allowsBy rows c s mode) n h
 
   -- the moves are a set of known actions
-  pub legal-known : (n : ℕ) → has (movesBy rows c s mode) n ≡ true → n < actions
+  pub moves-inside : SetIn (movesBy rows c s mode)
   unfolding movesBy
-  legal-known n t = lt-of-not-le (λ h. true-false (sym t ∙ has-high (movesBy rows c s mode) n (lt-of-lt-of-le (by (ended c s)) (pow-mono h))))
+  moves-inside = by (ended c s)
     where
       by : (t : Bool) → SetIn (cond t 0 (keepOf (allowsBy rows c s mode) (c .«action_pool» .0)))
       by true = pow-pos actions
       by false = set-inside (λ m. has (c .«action_pool» .0) m && allowsBy rows c s mode m)
+
+  pub legal-known : (n : ℕ) → has (movesBy rows c s mode) n ≡ true → n < actions
+  legal-known n t = lt-of-not-le (λ h. true-false (sym t ∙ has-high (movesBy rows c s mode) n (lt-of-lt-of-le moves-inside (pow-mono h))))
 
 -- ---- strict mode asks for all that an action's own rule asks
 

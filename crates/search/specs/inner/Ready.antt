@@ -11,13 +11,10 @@ use Rattle.refusal.specs.declared.Refusal.{Refusal}
 use Rattle.refusal.specs.declared.Refusal.the-variants.{NoRoom}
 use Rattle.refusal.specs.declared.Checked.{Checked}
 use Rattle.refusal.specs.declared.Checked.the-variants as K
-use Rattle.laws.specs.Bits.{has}
-use Rattle.action_set.specs.Sets.{SetIn, sizeOf}
+use Rattle.action_set.specs.Sets.{sizeOf}
 use Rattle.craft_context.specs.declared.context.CraftContext.{CraftContext}
 use Rattle.craft_state.specs.declared.state.CraftState.{CraftState}
 use Rattle.craft_state.specs.Inside.{CraftIn}
-use Rattle.moves.specs.Modes.{plain}
-use Rattle.moves.specs.Moves.{movesOf}
 use Rattle.score.specs.declared.result.CraftResult.{CraftResult}
 use Rattle.rollout.specs.declared.rollout.Rolled.{Rolled}
 use Rattle.rollout.specs.declared.rollout.Rolled.the-variants as L
@@ -72,12 +69,6 @@ chosenOf c o logs nodes count = record { at = selectOf o logs nodes count; state
 
 -- ---- the plan of an iteration
 
--- the members of a set are moves of the state
-pub record Movable (c : CraftContext) (s : CraftState) (set : ℕ) : Type 0 where
-  pub inside : CraftIn c s
-  pub known : SetIn set
-  pub legal : (n : ℕ) → has set n ≡ true → has (movesOf c s plain) n ≡ true
-
 abbrev pub refusedPlan : Refusal → Plan
 refusedPlan x = record { checked = K.Refused x; stored = 0; score = plusZero; at = 0 }
 
@@ -104,7 +95,7 @@ Drawable c s set (suc n) (d ∷ draws) = (d < sizeOf set) × Drawable c (drawnSt
 
 pub record Storing (c : CraftContext) (s : CraftState) (nodes : List Node) (count k : ℕ) (links draws : List ℕ) (at stored : ℕ) : Type 0 where
   pub growing : Growing c nodes count
-  pub byte : (j : ℕ) → j < count → CraftIn c (stateAt c nodes j)
+  pub craft : CraftIn c s
   pub inside : k < count
   pub state : s ≡ stateAt c nodes k
   pub room : count + stored ≤ length nodes

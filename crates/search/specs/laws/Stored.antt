@@ -108,7 +108,7 @@ module _ (c : CraftContext) where
 
 -- ---- the way up from the last of them
 
-last-is : (count k m : ℕ) → lastStored count k (suc m) ≡ count + m
+pub last-is : (count k m : ℕ) → lastStored count k (suc m) ≡ count + m
 last-is count k m = rw eqb·suc-zero (omega arith)
 
 pub last-inside : (count k n : ℕ) → k < count → lastStored count k n < count + n

@@ -50,7 +50,7 @@ craft progress durability points expert =
       «use_delineation» = true;
     }
 
-abbrev bench : CraftContext
+abbrev pub bench : CraftContext
 bench = craft 1000 (pos 40) 200 false
 
 abbrev progressTarget : ℕ → CraftContext → CraftContext
@@ -59,10 +59,10 @@ progressTarget n c = craft n (c .«durability_max») (c .«cp_max») (c .«is_ex
 abbrev durabilityMax : ℕ → CraftContext → CraftContext
 durabilityMax n c = craft (c .«progress_target») (pos n) (c .«cp_max») (c .«is_expert»)
 
-abbrev cpMax : ℕ → CraftContext → CraftContext
+abbrev pub cpMax : ℕ → CraftContext → CraftContext
 cpMax n c = craft (c .«progress_target») (c .«durability_max») n (c .«is_expert»)
 
-abbrev expert : CraftContext → CraftContext
+abbrev pub expert : CraftContext → CraftContext
 expert c = craft (c .«progress_target») (c .«durability_max») (c .«cp_max») true
 
 -- ---- what is seen: how the replay ended, and the state that it left

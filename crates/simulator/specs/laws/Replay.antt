@@ -48,7 +48,7 @@ module _ (rows : Rows) (c : CraftContext) (mode : Mode) (s : CraftState) where
       by false true false m e = refl
       by false false false m e = absurd (true-false (sym e))
 
-  going-result : ended c s ≡ false → resultBy rows c s mode ≡ cond (eqb (movesBy rows c s mode) 0) R.InvalidActionFailure R.Continuing
+  pub going-result : ended c s ≡ false → resultBy rows c s mode ≡ cond (eqb (movesBy rows c s mode) 0) R.InvalidActionFailure R.Continuing
   unfolding judgedBy
   going-result = by (leb (c .«progress_target») (s .progress)) (leb (c .«step_max») (s .step)) (leZ (s .durability) (pos 0))
     where

@@ -21,4 +21,4 @@ score-spec =
     (λ c κs. craft-in _ _ (c .before .before .check .ensures .same) (c .enum-told .given .1))
     (λ c.
     let k = c .before .before .before in
-    (onward-by (givenTests (k .before .args .context) (k .before .args .state)) [] (k .check .ensures .same) (c .before .enum-told .given .1) (answered refl (ap Score (c .score .ensures .0))), c .score .ensures .1)))
+    (onward-by (givenTests (k .before .args .context) (k .before .args .state)) [] (k .check .ensures .same) (c .before .enum-told .given .1) (answered refl (ap Score (c .score-single .ensures .0))), c .score-single .ensures .1)))

@@ -13,12 +13,11 @@ unfolding collect actionOf
 returns c =
     let u2 = c .before .before in
     let u1 = u2 .before in
-    let f = u1 .before .before .before in
-    let s = f .before .before in (
-      simp (c .unless3 .ensures .0, u2 .unless2 .ensures .0, u1 .unless .ensures .0, f .keep-finishing .ensures .0, f .before .within .ensures .0)
+    let s = u1 .before .before .before in (
+      simp (c .unless3 .ensures .0, u2 .unless2 .ensures .0, u1 .unless .ensures .0, s .pre .1)
           (progress-leaves (s .args .context) (s .args .state) attributesOf rows-bounded (s .args .set)),
       c .unless3 .ensures .1,
     )
 
 pub progress-moves-spec : {M : Type 1} → statement M
-progress-moves-spec = tie.close (tie.spec (λ c κs. search needs) (λ c κs. search needs) (λ c κs. search needs) (λ c κs. search needs) (λ c κs. search needs) returns)
+progress-moves-spec = tie.close (tie.spec (λ c κs. search needs) (λ c κs. search needs) (λ c κs. search needs) returns)

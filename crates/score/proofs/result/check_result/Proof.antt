@@ -11,4 +11,4 @@ check-result-spec =
     (tie.spec
     (λ c κs. c .pre)
     (λ c κs. c .before .pre)
-    (λ c. let s = c .before .before in (c .judge .ensures .0 ∙ ap (judgedBy (s .args .context) (s .args .state)) (c .before .legal-moves .ensures .0), c .judge .ensures .1)))
+    (λ c. let s = c .before .before in (c .judge-single .ensures .0 ∙ ap (judgedBy (s .args .context) (s .args .state)) (c .before .legal-moves .ensures .0), c .judge-single .ensures .1)))
