@@ -1,0 +1,89 @@
+//! The Rust's own searches, with their draws.
+
+use super::options::Options;
+use crate::states::fields::{told_numbers, StateNumbers};
+use crate::trees::Record;
+use crafty::tree::Arena;
+use crafty::{Action, CraftContext, CraftState, Draw, Met, Simulator};
+
+/// Where a search ended.
+pub struct Grown {
+    pub actions: Vec<u8>,
+    pub node: usize,
+    pub state: StateNumbers,
+    pub records: Vec<Record>,
+    pub draws: Vec<Draw>,
+}
+
+/// How many records and draws are used.
+#[derive(Clone, Copy, PartialEq, Eq, Debug)]
+pub struct Mark {
+    pub records: usize,
+    pub draws: usize,
+}
+
+/// A search, and what it used and met on its way.
+pub struct Run {
+    pub context: CraftContext,
+    pub options: Options,
+    seed: u32,
+    pub grown: Grown,
+    /// After so many iterations.
+    pub marks: Vec<Mark>,
+    /// Of each iteration.
+    pub met: Vec<Met>,
+}
+
+impl Run {
+    pub fn new(context: &CraftContext, options: Options, seed: u32) -> Run {
+        let grown = search(context, &options, seed);
+        let (marks, met) = watch(context, &options, seed);
+        assert_eq!(marks.last(), Some(&grown.mark()), "a watched search goes another way");
+        Run { context: context.clone(), options, seed, grown, marks, met }
+    }
+
+    /// The same with fewer iterations.
+    pub fn after(&self, iterations: usize) -> Grown {
+        let options = Options { iterations: iterations as u32, ..self.options };
+        search(&self.context, &options, self.seed)
+    }
+}
+
+impl Grown {
+    fn mark(&self) -> Mark {
+        Mark { records: self.records.len(), draws: self.draws.len() }
+    }
+}
+
+fn search(context: &CraftContext, options: &Options, seed: u32) -> Grown {
+    let (actions, state, search) = Simulator::search_logged(context, options.rust(seed));
+    let tree = search.tree();
+    Grown {
+        node: actions.iter().fold(0, |node, action| child(tree, node, *action)),
+        actions: actions.iter().map(|action| *action as u8).collect(),
+        state: told_numbers(&state),
+        records: tree.nodes.iter().map(Record::of).collect(),
+        draws: search.draws().to_vec(),
+    }
+}
+
+/// The node after an action: a node has no two children of one action.
+fn child(tree: &Arena<CraftState>, node: usize, action: Action) -> usize {
+    let is_after = |child: &&usize| tree.get(**child).state.action == Some(action);
+    let mut children = tree.get(node).children.iter().filter(is_after);
+    let child = children.next().expect("a child on the path");
+    assert!(children.next().is_none(), "two children of one action");
+    *child
+}
+
+fn watch(context: &CraftContext, options: &Options, seed: u32) -> (Vec<Mark>, Vec<Met>) {
+    let mut search = Simulator::from_context_logged(context, options.rust(seed));
+    let mut marks = vec![Mark { records: 1, draws: 0 }];
+    let mut met = Vec::new();
+    for _ in 0..options.iterations {
+        met.push(search.watch_iteration());
+        let records = search.tree().nodes.len();
+        marks.push(Mark { records, draws: search.draws().len() });
+    }
+    (marks, met)
+}
