@@ -1,17 +1,19 @@
 //! Crafts to search: any inside the limits, players' own, and those that are over before they begin.
 
 use crate::random::Random;
+use crate::states::bench::bench;
 use crate::states::fields::set;
 use crate::states::random_context;
 use crate::thresholds::players;
-use crafty::{Action, CraftContext};
+use crafty::{Action, ActionSet, CraftContext};
 
 /// With a step_max above 0, without which there is no search.
 pub fn context(random: &mut Random) -> CraftContext {
     let context = match random.below(8) {
         0 => no_search(random),
         1 => of_steps(random),
-        2 | 3 => players(random.any(&[35, 40, 60, 70, 80]), random.between(8, 50) as u8),
+        2 => even(random.between(2, 9), random.between(8, 60) as u8),
+        3 | 4 => players(random.any(&[35, 40, 60, 70, 80]), random.between(8, 50) as u8),
         _ => random_context::context(random),
     };
     CraftContext { step_max: context.step_max.max(1), ..context }
@@ -34,4 +36,25 @@ fn no_search(random: &mut Random) -> CraftContext {
 fn of_steps(random: &mut Random) -> CraftContext {
     let step_max = random.any(&[1, 2, 3, 254, 255]);
     CraftContext { step_max, ..random_context::context(random) }
+}
+
+/// Each of its moves brings the same progress, and steps alone are scored: so rollouts finish, many with equal scores.
+pub fn even(progress_target: u32, step_max: u8) -> CraftContext {
+    use Action::*;
+    let moves = vec![
+        BasicSynthesis,
+        BasicSynthesisTraited,
+        CarefulSynthesis,
+        CarefulSynthesisTraited,
+        PrudentSynthesis,
+    ];
+    CraftContext {
+        base_progress_factor: 1,
+        progress_target,
+        quality_target: 0,
+        step_max,
+        durability_max: 97,
+        action_pool: ActionSet::from_vec(&moves),
+        ..bench()
+    }
 }

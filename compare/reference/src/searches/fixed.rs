@@ -1,6 +1,7 @@
 //! The fixed searches: every edge of an option, every refusal at its boundary, and every two that meet.
 
 use super::call::Call;
+use super::contexts::even;
 use super::early::WRONGS;
 use super::generate::Case;
 use super::logarithms::{self, Logarithms, LOGARITHMS, LOGARITHM_MOST};
@@ -11,16 +12,18 @@ use crate::states::bench::{bench, expert, with_cp, with_durability};
 use crate::states::fields::set;
 use crate::thresholds::players;
 use crate::trees::{LEAST, NANS};
-use crafty::{Action, ActionSet, CraftContext};
+use crafty::CraftContext;
 use std::sync::Arc;
 
 const SEED: u32 = 1;
+/// As many records as the index of crates/search has room for.
+const INDEXED: usize = 8_192;
 /// So few that each draw, record and place of the path can be wrong in turn.
 const FEW: u32 = 5;
 
 pub fn cases() -> impl Iterator<Item = Case> {
     let runs = crafts().into_iter().flat_map(|context| whole(&context));
-    runs.chain(few().into_iter().flat_map(|run| boundaries(&run))).chain(before_work())
+    runs.chain([past_index()]).chain(few().into_iter().flat_map(|run| boundaries(&run))).chain(before_work())
 }
 
 /// The usual, with paths stored.
@@ -57,13 +60,17 @@ fn whole(context: &CraftContext) -> Vec<Case> {
     all.into_iter().map(run).map(|run| Case::new(Call::of(&run), &run)).collect()
 }
 
+/// Every rollout is stored.
+fn past_index() -> Case {
+    let run = Run::new(&even(9, 20), options(ITERATIONS_MOST), SEED);
+    assert!(run.grown.records.len() > 2 * INDEXED, "a tree within the index");
+    Case::new(Call::of(&run), &run)
+}
+
 /// One that stores whole paths, and one that stores none.
 fn few() -> [Run; 2] {
-    let moves = [Action::BasicSynthesis, Action::Veneration, Action::MastersMend];
-    let action_pool = ActionSet::from_vec(&moves.to_vec());
-    let quick = CraftContext { progress_target: 400, quality_target: 0, action_pool, ..bench() };
     let runs = [
-        Run::new(&quick, options(FEW), SEED),
+        Run::new(&even(4, 8), options(FEW), SEED),
         Run::new(&expert(200), Options { threshold: 1.0, ..options(FEW) }, SEED),
     ];
     assert!(runs[0].grown.records.len() > FEW as usize + 1, "no path is stored");
