@@ -12,7 +12,7 @@ pub fn context(random: &mut Random) -> CraftContext {
     let context = match random.below(8) {
         0 => no_search(random),
         1 => of_steps(random),
-        2 => even(random.between(2, 9), random.between(8, 60) as u8),
+        2 => any_even(random),
         3 | 4 => players(random.any(&[35, 40, 60, 70, 80]), random.between(8, 50) as u8),
         _ => random_context::context(random),
     };
@@ -32,16 +32,22 @@ fn no_search(random: &mut Random) -> CraftContext {
     }
 }
 
+fn any_even(random: &mut Random) -> CraftContext {
+    let moves = random.between(1, 5) as usize;
+    even(moves, random.between(2, 9), random.between(8, 60) as u8)
+}
+
 /// Of the fewest steps, or of the most.
 fn of_steps(random: &mut Random) -> CraftContext {
     let step_max = random.any(&[1, 2, 3, 254, 255]);
     CraftContext { step_max, ..random_context::context(random) }
 }
 
-/// Each of its moves brings the same progress, and steps alone are scored: so rollouts finish, many with equal scores.
-pub fn even(progress_target: u32, step_max: u8) -> CraftContext {
+/// Each of its moves, which are up to five, brings the same progress, and steps alone are scored: so every rollout finishes,
+/// and with the same score.
+pub fn even(moves: usize, progress_target: u32, step_max: u8) -> CraftContext {
     use Action::*;
-    let moves = vec![
+    let all = [
         BasicSynthesis,
         BasicSynthesisTraited,
         CarefulSynthesis,
@@ -54,7 +60,7 @@ pub fn even(progress_target: u32, step_max: u8) -> CraftContext {
         quality_target: 0,
         step_max,
         durability_max: 97,
-        action_pool: ActionSet::from_vec(&moves),
+        action_pool: ActionSet::from_vec(&all[..moves].to_vec()),
         ..bench()
     }
 }

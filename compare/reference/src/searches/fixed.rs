@@ -18,12 +18,16 @@ use std::sync::Arc;
 const SEED: u32 = 1;
 /// As many records as the index of crates/search has room for.
 const INDEXED: usize = 8_192;
+/// So many trees are larger.
+const LARGE: u32 = 4;
 /// So few that each draw, record and place of the path can be wrong in turn.
 const FEW: u32 = 5;
 
 pub fn cases() -> impl Iterator<Item = Case> {
     let runs = crafts().into_iter().flat_map(|context| whole(&context));
-    runs.chain([past_index()]).chain(few().into_iter().flat_map(|run| boundaries(&run))).chain(before_work())
+    runs.chain(past_index())
+        .chain(few().into_iter().flat_map(|run| boundaries(&run)))
+        .chain(before_work())
 }
 
 /// The usual, with paths stored.
@@ -60,17 +64,20 @@ fn whole(context: &CraftContext) -> Vec<Case> {
     all.into_iter().map(run).map(|run| Case::new(Call::of(&run), &run)).collect()
 }
 
-/// Every rollout is stored.
-fn past_index() -> Case {
-    let run = Run::new(&even(9, 20), options(ITERATIONS_MOST), SEED);
-    assert!(run.grown.records.len() > 2 * INDEXED, "a tree within the index");
-    Case::new(Call::of(&run), &run)
+/// Every rollout has the same score, which is the threshold, and is stored.
+fn past_index() -> Vec<Case> {
+    let case = |seed| {
+        let run = Run::at_threshold(&even(5, 7, 20), options(ITERATIONS_MOST), seed);
+        assert!(run.grown.records.len() > INDEXED, "a tree within the index");
+        Case::new(Call::of(&run), &run)
+    };
+    (SEED..SEED + LARGE).map(case).collect()
 }
 
 /// One that stores whole paths, and one that stores none.
 fn few() -> [Run; 2] {
     let runs = [
-        Run::new(&even(4, 8), options(FEW), SEED),
+        Run::new(&even(5, 4, 8), options(FEW), SEED),
         Run::new(&expert(200), Options { threshold: 1.0, ..options(FEW) }, SEED),
     ];
     assert!(runs[0].grown.records.len() > FEW as usize + 1, "no path is stored");

@@ -48,8 +48,10 @@ pub fn cases(seed: u64, count: u64) -> impl Iterator<Item = Case> {
 }
 
 fn of_search(random: &mut Random, number: u64) -> Vec<Case> {
-    let context = contexts::context(random);
-    let run = Run::new(&context, Options::random(random), random.bits());
+    let (context, options, seed) =
+        (contexts::context(random), Options::random(random), random.bits());
+    let new = if random.one_in(8) { Run::at_threshold } else { Run::new };
+    let run = new(&context, options, seed);
     let call = lent(random, &run);
     let mut cases = vec![refused_early(random, &run, &call, number)];
     cases.extend(refused_later(random, &run, &call, number));

@@ -42,6 +42,13 @@ impl Run {
         Run { context: context.clone(), options, seed, grown, marks, met }
     }
 
+    /// With a threshold that just the greatest score reaches which is met before a path is stored.
+    pub fn at_threshold(context: &CraftContext, options: Options, seed: u32) -> Run {
+        let none_stored = Options { threshold: f32::INFINITY, ..options };
+        let threshold = search(context, &none_stored, seed).records[0].max_score;
+        Run::new(context, Options { threshold, ..options }, seed)
+    }
+
     /// The same with fewer iterations.
     pub fn after(&self, iterations: usize) -> Grown {
         let options = Options { iterations: iterations as u32, ..self.options };
