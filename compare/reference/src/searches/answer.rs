@@ -67,7 +67,7 @@ fn grown(call: &Call, run: &Run) -> Answer {
         return stopped(call, refusal, counted(iteration, &grown, run), &grown.records);
     }
     let grown = &run.grown;
-    let found = counted(run.met.len(), grown, run);
+    let found = counted(run.marks.len() - 1, grown, run);
     if grown.actions.len() > call.room {
         let refusal = Refusal::RoomTooShort { needed: grown.actions.len() };
         return stopped(call, refusal, found, &grown.records);

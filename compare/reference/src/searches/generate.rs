@@ -3,10 +3,9 @@
 use super::answer::{answer, Answer};
 use super::call::Call;
 use super::options::Options;
-use super::rust::{Mark, Run};
+use super::rust::{Run, Tally};
 use super::{contexts, early, later, logarithms};
 use crate::random::Random;
-use crafty::Met;
 
 /// What is wrong in a call of two wrongs.
 pub const TWO_WRONGS: &str = "two wrongs";
@@ -19,10 +18,8 @@ pub struct Case {
     pub answer: Answer,
     /// What is wrong with it, if anything is.
     pub wrong: Option<&'static str>,
-    /// Of a whole search what its iterations met.
-    pub met: Vec<Met>,
-    /// And how many of them stored a whole path.
-    pub stored: usize,
+    /// Of a whole search.
+    pub tally: Tally,
 }
 
 impl Case {
@@ -31,14 +28,12 @@ impl Case {
     }
 
     pub fn new(call: Call, run: &Run) -> Case {
-        Case { answer: answer(&call, run), call, wrong: None, met: Vec::new(), stored: 0 }
+        Case { answer: answer(&call, run), call, wrong: None, tally: Tally::default() }
     }
 
     pub fn whole(call: Call, run: Run) -> Case {
-        let is_path = |marks: &&[Mark]| marks[1].records > marks[0].records + 1;
-        let stored = run.marks.windows(2).filter(is_path).count();
         let case = Case::new(call, &run);
-        Case { met: run.met, stored, ..case }
+        Case { tally: run.tally, ..case }
     }
 }
 

@@ -8,7 +8,7 @@ use crate::ask::{ask, Question};
 use crate::counts::Counts;
 use crate::fail;
 use crate::states::fields::StateNumbers;
-use crate::states::result::{self, RESULTS};
+use crate::states::result::RESULTS;
 use crate::trees::{Record, WIDTH};
 use std::io::{self, BufRead};
 
@@ -35,7 +35,9 @@ pub fn compare(seed: u64, count: u64, host: &[&str]) -> io::Result<()> {
     })?;
     print!("{counts}");
     check(&counts, count);
-    println!("compare: {asked} searches equal, {count} of them random and whole, {records} records after them, seed {seed}");
+    println!(
+        "compare: {asked} calls equal, of {count} random searches, {records} records after them, seed {seed}"
+    );
     Ok(())
 }
 
@@ -45,7 +47,7 @@ fn nothing_met() -> Counts {
     let wrongs =
         early::WRONGS.map(|wrong| wrong.0).into_iter().chain(later::WRONGS.map(|wrong| wrong.0));
     let names = wrongs.map(refused).chain(RESULTS[..4].iter().map(|result| rolled_out(result)));
-    let others = [ITERATIONS, DEAD_ENDS, STORED, TIES].map(str::to_string);
+    let others = [TWO_WRONGS, ITERATIONS, DEAD_ENDS, STORED, TIES].map(str::to_string);
     names.chain(others).for_each(|name| counts.met_times(&name, 0));
     counts
 }
@@ -66,15 +68,14 @@ fn count_case(counts: &mut Counts, case: &Case) {
         Some(wrong) if number > 0 => counts.met(&refused(wrong)),
         _ => {}
     }
-    for met in &case.met {
-        counts.met(ITERATIONS);
-        counts.met_times(TIES, met.ties);
-        match met.rolled_out {
-            None => counts.met(DEAD_ENDS),
-            Some(_) => counts.met(&rolled_out(result::name(&met.rolled_out))),
-        }
+    let tally = &case.tally;
+    counts.met_times(ITERATIONS, tally.iterations);
+    counts.met_times(DEAD_ENDS, tally.dead_ends);
+    counts.met_times(STORED, tally.stored);
+    counts.met_times(TIES, tally.ties);
+    for (result, count) in &tally.rolled_out {
+        counts.met_times(&rolled_out(result), *count);
     }
-    counts.met_times(STORED, case.stored as u64);
 }
 
 fn check(counts: &Counts, searches: u64) {

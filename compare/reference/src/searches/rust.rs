@@ -2,9 +2,11 @@
 
 use super::options::Options;
 use crate::states::fields::{told_numbers, StateNumbers};
+use crate::states::result;
 use crate::trees::Record;
 use crafty::tree::Arena;
 use crafty::{Action, CraftContext, CraftState, Draw, Met, Simulator};
+use std::collections::HashMap;
 
 /// Where a search ended.
 pub struct Grown {
@@ -22,6 +24,19 @@ pub struct Mark {
     pub draws: usize,
 }
 
+/// What the iterations of a search met, in numbers of them.
+#[derive(Default)]
+pub struct Tally {
+    pub iterations: u64,
+    pub dead_ends: u64,
+    /// Those that stored a whole path, of more than one record.
+    pub stored: u64,
+    /// How often on the way down more than one child had the greatest score.
+    pub ties: u64,
+    /// How rollouts ended.
+    pub rolled_out: HashMap<&'static str, u64>,
+}
+
 /// A search, and what it used and met on its way.
 pub struct Run {
     pub context: CraftContext,
@@ -30,16 +45,15 @@ pub struct Run {
     pub grown: Grown,
     /// After so many iterations.
     pub marks: Vec<Mark>,
-    /// Of each iteration.
-    pub met: Vec<Met>,
+    pub tally: Tally,
 }
 
 impl Run {
     pub fn new(context: &CraftContext, options: Options, seed: u32) -> Run {
         let grown = search(context, &options, seed);
-        let (marks, met) = watch(context, &options, seed);
+        let (marks, tally) = watch(context, &options, seed);
         assert_eq!(marks.last(), Some(&grown.mark()), "a watched search goes another way");
-        Run { context: context.clone(), options, seed, grown, marks, met }
+        Run { context: context.clone(), options, seed, grown, marks, tally }
     }
 
     /// With a threshold that just the greatest score reaches which is met before a path is stored.
@@ -83,14 +97,30 @@ fn child(tree: &Arena<CraftState>, node: usize, action: Action) -> usize {
     *child
 }
 
-fn watch(context: &CraftContext, options: &Options, seed: u32) -> (Vec<Mark>, Vec<Met>) {
+fn watch(context: &CraftContext, options: &Options, seed: u32) -> (Vec<Mark>, Tally) {
     let mut search = Simulator::from_context_logged(context, options.rust(seed));
-    let mut marks = vec![Mark { records: 1, draws: 0 }];
-    let mut met = Vec::new();
+    let mut before = Mark { records: 1, draws: 0 };
+    let mut marks = vec![before];
+    let mut tally = Tally::default();
     for _ in 0..options.iterations {
-        met.push(search.watch_iteration());
-        let records = search.tree().nodes.len();
-        marks.push(Mark { records, draws: search.draws().len() });
+        let met = search.watch_iteration();
+        let after = Mark { records: search.tree().nodes.len(), draws: search.draws().len() };
+        tally.add(&met, after.records - before.records);
+        marks.push(after);
+        before = after;
     }
-    (marks, met)
+    (marks, tally)
+}
+
+impl Tally {
+    /// An iteration that stored so many records.
+    fn add(&mut self, met: &Met, records: usize) {
+        self.iterations += 1;
+        self.ties += met.ties;
+        self.stored += u64::from(records > 1);
+        match met.rolled_out {
+            None => self.dead_ends += 1,
+            Some(_) => *self.rolled_out.entry(result::name(&met.rolled_out)).or_default() += 1,
+        }
+    }
 }
