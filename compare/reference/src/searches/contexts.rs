@@ -34,7 +34,7 @@ fn no_search(random: &mut Random) -> CraftContext {
 
 fn any_even(random: &mut Random) -> CraftContext {
     let moves = random.between(1, 5) as usize;
-    even(moves, random.between(2, 9), random.between(8, 60) as u8)
+    even(moves, random.between(2, 9), random.between(12, 60) as u8)
 }
 
 /// Of the fewest steps, or of the most.
@@ -43,8 +43,8 @@ fn of_steps(random: &mut Random) -> CraftContext {
     CraftContext { step_max, ..random_context::context(random) }
 }
 
-/// Each of its moves, which are up to five, brings the same progress, and steps alone are scored: so every rollout finishes,
-/// and with the same score.
+/// Each of its moves, which are up to five, brings the same progress, and steps alone are scored: where there are steps
+/// enough, every rollout finishes, and with the same score.
 pub fn even(moves: usize, progress_target: u32, step_max: u8) -> CraftContext {
     use Action::*;
     let all = [

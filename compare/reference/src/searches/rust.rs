@@ -53,6 +53,10 @@ impl Run {
         let grown = search(context, &options, seed);
         let (marks, tally) = watch(context, &options, seed);
         assert_eq!(marks.last(), Some(&grown.mark()), "a watched search goes another way");
+        let steps = usize::from(context.step_max);
+        let is_longer = |marks: &[Mark]| marks[1].draws - marks[0].draws > steps;
+        assert!(!marks.windows(2).any(is_longer), "an iteration has more draws than steps");
+        assert!(grown.actions.len() <= steps, "a path has more actions than steps");
         Run { context: context.clone(), options, seed, grown, marks, tally }
     }
 
