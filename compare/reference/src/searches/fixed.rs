@@ -91,7 +91,7 @@ fn boundaries(run: &Run) -> Vec<Case> {
     calls.into_iter().map(|call| Case::new(call, run)).collect()
 }
 
-/// Every number of draws with every number of records, and every room of the path with one too few of both.
+/// Every number of draws with every number of records, and every room of the path, also with a record too few.
 fn cut(run: &Run) -> Vec<Call> {
     let whole = Call::of(run);
     let mut calls = Vec::new();
