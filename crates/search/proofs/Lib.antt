@@ -1,3 +1,5 @@
 -- What several proofs share.
 -- Assumes nothing.
+pub mod TypesSelect
 pub mod TypesStore
+pub mod TypesIterate

@@ -17,3 +17,4 @@ pub mod Iterate
 pub mod Path
 pub mod Search
 pub mod Storing
+pub mod Planned

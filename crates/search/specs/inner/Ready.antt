@@ -112,6 +112,13 @@ pub record Stores (c : CraftContext) (s : CraftState) (nodes : List Node) (count
 
 -- ---- an iteration, and all of them
 
+-- after a plan: one that was refused leaves the count and the place
+abbrev pub stoppedBy : Plan → ℕ → ℕ → Turned
+stoppedBy p count at = record { checked = p .checked; count = count; at = at }
+
+abbrev pub goneBy : Plan → ℕ → Turned
+goneBy p count = record { checked = K.Passed; count = count + p .stored; at = p .at }
+
 abbrev pub turnedOf : ℕ → ℕ → Turn → Turned
 turnedOf count at (Goes g) = record { checked = K.Passed; count = g .count; at = g .at }
 turnedOf count at (Stops x) = record { checked = K.Refused x; count = count; at = at }

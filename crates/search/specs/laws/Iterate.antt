@@ -71,7 +71,7 @@ stops-never : {x : Refusal} {next : Growth} → Stops x ≡ Goes next → ⊥
 stops-never e = let z : _≡_ {A = ℕ} 0 1 = cc in omega arith
 
 module _ (c : CraftContext) (o : SearchOptions) (logs : List Float) (draws : List ℕ) (g : Growth) where
-  abbrev storedBy : CraftResult → ℕ → ℕ
+  abbrev pub storedBy : CraftResult → ℕ → ℕ
   storedBy result end = storedOf (isWorth (o .«score_storage_threshold») (maxAt (g .nodes) 0) result) (end - g .at)
 
   -- the records before the score is propagated
@@ -120,7 +120,7 @@ module _ (c : CraftContext) (o : SearchOptions) (logs : List Float) (draws : Lis
   selected-inside = selected-below o logs (g .nodes) (g .count) (tree-falls (grows .growing .tree)) (grows .growing .tree .some)
 
   module _ {result : CraftResult} {end : ℕ} (r : rolledOf c o logs draws g ≡ L.Ended result end) where
-    rolls : Rolls c (selectedState c o logs draws g) (unusedOf c o logs draws g) (g .at) (drop (g .at) draws) result end
+    pub rolls : Rolls c (selectedState c o logs draws g) (unusedOf c o logs draws g) (g .at) (drop (g .at) draws) result end
     rolls = rolled c (selectedState c o logs draws g) (unusedOf c o logs draws g) (g .at) (drop (g .at) draws) result end r
 
     -- every score that is propagated is from -1 to 1
