@@ -11,7 +11,7 @@ enum { FIELDS = 15 };
 
 /* Of a tree the input is its records, which may be written: they come back before the room, after a third number, the
  * last node. Its other numbers stand at these places of the context; NODE is also a parent or a start, SCORE is bits. */
-enum { COUNT, NODE, TARGET, ACTION, SCORE };
+enum { COUNT, NODE, TARGET, ACTION, SCORE, UNUSED };
 
 /* Only REPLAY has a mode, and it and the trees a context. The lengths are in bytes. */
 struct call {

@@ -59,8 +59,10 @@ static crafty_solution tree_answer(const struct call *call, crafty_node *nodes, 
     memcpy(&score, &bits, sizeof score);
     crafty_answer said = { 0, 0 };
     switch (call->function) {
-    case TREE_NEW: said = crafty_tree_new(nodes, length); break;
-    case TREE_INSERT: said = crafty_tree_insert(nodes, length, c[COUNT], c[NODE], c[ACTION]); break;
+    case TREE_NEW: said = crafty_tree_new(nodes, length, c[UNUSED]); break;
+    case TREE_INSERT:
+        said = crafty_tree_insert(nodes, length, c[COUNT], c[NODE], c[ACTION], c[UNUSED]);
+        break;
     case TREE_CHILDREN:
         said = crafty_tree_children(nodes, length, room, call->room / sizeof(size_t), c[COUNT], c[NODE]);
         break;

@@ -5,6 +5,7 @@
 
 #include <stdio.h>
 #include <stdlib.h>
+#include <string.h>
 #include <unistd.h>
 
 static FILE *to_host, *from_host;
@@ -46,14 +47,19 @@ static void get(void *to, size_t bytes)
     if (fread(to, 1, bytes, from_host) != bytes) fail("the host does not answer");
 }
 
+static void call_host(const struct call *call, const void *input, const void *room)
+{
+    if (to_host == NULL) start();
+    put(call, sizeof *call);
+    put(input, call->input);
+    put(room, call->room);
+    if (fflush(to_host) != 0) fail("the host does not read");
+}
+
 static crafty_answer ask(struct call call, const uint8_t *input, void *room)
 {
     uint64_t numbers[2];
-    if (to_host == NULL) start();
-    put(&call, sizeof call);
-    put(input, call.input);
-    put(room, call.room);
-    if (fflush(to_host) != 0) fail("the host does not read");
+    call_host(&call, input, room);
     get(numbers, sizeof numbers);
     get(room, call.room);
     return (crafty_answer){ (uint32_t)numbers[0], numbers[1] };
@@ -106,4 +112,83 @@ crafty_answer crafty_write_list(const uint8_t *list, size_t list_length, uint8_t
 crafty_answer crafty_macro_time(const uint8_t *list, size_t list_length)
 {
     return ask_plain(MACRO_TIME, list, list_length, NULL, 0);
+}
+
+/* ---- trees. */
+
+static crafty_solution call_over_tree(const struct call *call, const crafty_node *nodes, const void *room)
+{
+    uint64_t numbers[3];
+    call_host(call, nodes, room);
+    get(numbers, sizeof numbers);
+    return (crafty_solution){ (uint32_t)numbers[0], numbers[1], numbers[2] };
+}
+
+/* Of records that may be written; there is no room. */
+static crafty_answer change(struct call call, crafty_node *nodes, size_t length)
+{
+    call.input = length * sizeof *nodes;
+    crafty_solution said = call_over_tree(&call, nodes, NULL);
+    get(nodes, call.input);
+    return (crafty_answer){ said.number, said.value };
+}
+
+/* Of records that are only read, and a room. */
+static crafty_solution look(struct call call, const crafty_node *nodes, size_t length, void *room)
+{
+    call.input = length * sizeof *nodes;
+    crafty_solution said = call_over_tree(&call, nodes, room);
+    for (size_t i = 0; i < length; i++) {
+        crafty_node node;
+        get(&node, sizeof node);
+        if (memcmp(&node, &nodes[i], sizeof node) != 0) fail("a record was written");
+    }
+    get(room, call.room);
+    return said;
+}
+
+crafty_answer crafty_tree_new(crafty_node *nodes, size_t nodes_length, uint32_t unused)
+{
+    return change((struct call){ .function = TREE_NEW, .context = { [UNUSED] = unused } }, nodes, nodes_length);
+}
+
+crafty_answer crafty_tree_insert(
+    crafty_node *nodes, size_t nodes_length, size_t count, size_t parent, uint8_t action, uint32_t unused)
+{
+    struct call call = {
+        .function = TREE_INSERT,
+        .context = { [COUNT] = count, [NODE] = parent, [ACTION] = action, [UNUSED] = unused },
+    };
+    return change(call, nodes, nodes_length);
+}
+
+crafty_answer crafty_tree_backpropagate(
+    crafty_node *nodes, size_t nodes_length, size_t count, size_t start, size_t target, float score)
+{
+    uint32_t bits;
+    memcpy(&bits, &score, sizeof bits);
+    struct call call = {
+        .function = TREE_BACKPROPAGATE,
+        .context = { [COUNT] = count, [NODE] = start, [TARGET] = target, [SCORE] = bits },
+    };
+    return change(call, nodes, nodes_length);
+}
+
+crafty_answer crafty_tree_children(
+    const crafty_node *nodes, size_t nodes_length, size_t *out, size_t out_length, size_t count, size_t node)
+{
+    struct call call = {
+        .function = TREE_CHILDREN,
+        .context = { [COUNT] = count, [NODE] = node },
+        .room = out_length * sizeof *out,
+    };
+    crafty_solution said = look(call, nodes, nodes_length, out);
+    return (crafty_answer){ said.number, said.value };
+}
+
+crafty_solution crafty_tree_solution(
+    const crafty_node *nodes, size_t nodes_length, uint8_t *out, size_t out_length, size_t count)
+{
+    struct call call = { .function = TREE_SOLUTION, .context = { [COUNT] = count }, .room = out_length };
+    return look(call, nodes, nodes_length, out);
 }

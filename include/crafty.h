@@ -38,7 +38,7 @@ typedef struct crafty_answer {
  * comes last. */
 enum {
     CRAFTY_SUCCESS = 0,
-    CRAFTY_OUTSIDE_LIMITS = 1, /* a number of the context is outside its limit, or does not fit its field */
+    CRAFTY_OUTSIDE_LIMITS = 1, /* a number of the context is outside its limit or does not fit its field; a set has bit 31 */
     CRAFTY_UNKNOWN_ACTION = 3, /* an action's number is above 30; value: the first such place in the list, from 0 */
     CRAFTY_UNKNOWN_WORD = 5,   /* a word is no action's name; value: the byte where the first such word starts */
     CRAFTY_NO_ROOM = 6,        /* what was lent is too short; value: how many bytes, numbers or records are needed */
@@ -136,13 +136,16 @@ crafty_answer crafty_macro_time(const uint8_t *list, size_t list_length);
  *   visits           a whole number from 0 to 16,777,216
  *   score_sum        from -visits to visits
  *   max_score        from +0 to 1, and not minus zero
- * None of the three is a NaN. What takes a sound tree leaves a sound one. */
+ *   unused           the moves not drawn from the record yet, bit n for action n: bit 31 is clear, and no more is asked.
+ *                    They are the caller's to keep: the functions below write those of a new record alone
+ * None of the three floats is a NaN. What takes a sound tree leaves a sound one. */
 typedef struct crafty_node {
     size_t parent;
     uint8_t action;
     float visits;
     float score_sum;
     float max_score;
+    uint32_t unused;
 } crafty_node;
 
 /* The answer of crafty_tree_solution: as crafty_answer, and of a success the last node; of a refusal `node` is 0. */
@@ -152,13 +155,15 @@ typedef struct crafty_solution {
     size_t node;
 } crafty_solution;
 
-/* A new tree: writes record 0, with no visit. Value: the count, 1. Refused by 6 (1 record is needed). */
-crafty_answer crafty_tree_new(crafty_node *nodes, size_t nodes_length);
+/* A new tree: writes record 0, with no visit and these unused moves. Value: the count, 1. Refused by 1 (the unused
+ * moves), 6 (1 record is needed). */
+crafty_answer crafty_tree_new(crafty_node *nodes, size_t nodes_length, uint32_t unused);
 
-/* Writes a new record, number `count`, with no visit, below a parent. Value: its number; the count is then one more.
- * Refused by 3 (value 0), 7, 8 (the parent), 6 (count + 1 records are needed). */
+/* Writes a new record, number `count`, with no visit and these unused moves, below a parent, whose record stays as it
+ * is. Value: its number; the count is then one more. Refused by 1 (the unused moves), 3 (value 0), 7, 8 (the parent),
+ * 6 (count + 1 records are needed). */
 crafty_answer crafty_tree_insert(
-    crafty_node *nodes, size_t nodes_length, size_t count, size_t parent, uint8_t action);
+    crafty_node *nodes, size_t nodes_length, size_t count, size_t parent, uint8_t action, uint32_t unused);
 
 /* Each record from `start` up to `target` gets one visit more, the score, which is from -1 to 1, in its sum, and the
  * greater maximum. Value: 0. Refused by 7, 8 (start or target), 9, 10, 11. */

@@ -2,7 +2,6 @@
 //! judges the goals by them. With --goals a goal that is missed makes the exit status 1.
 //! bench count CASE CALLS: makes our calls of a case alone, so that another program can count their instructions.
 
-mod archive;
 mod cases;
 mod crafts;
 mod lists;

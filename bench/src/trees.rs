@@ -4,11 +4,11 @@
 //! call whose start does not exist: refusal 8 may be told only of a sound tree, and nothing is done after it. Such a
 //! call follows each call of an entry; the median of what the entry takes longer is the time of its inner function.
 
-use crate::archive::{backpropagate, solution, Node};
 use crate::crafts::Craft;
 use crate::lists::Random;
 use crate::measure::{each, in_rounds, median, timed, Figure, Times};
-use crafty::{Action, CraftState, Simulator};
+use brothlantern::tree::{backpropagate, solution, Node, Solution};
+use crafty::{Action, ActionSet, CraftState, Simulator};
 
 const RECORDS: usize = 4_096;
 /// A parent is one of so many records before, which makes paths of some 30.
@@ -30,7 +30,7 @@ pub struct Trees {
 
 pub fn measure(rounds: usize) -> Trees {
     let contexts = Craft::Lasting.contexts();
-    let mut tree = Simulator::of_root(&contexts[0]);
+    let mut tree = Simulator::of_root(&contexts[0], ActionSet::new());
     let mut random = Random(RECORDS as u64);
     grow(&mut tree, &mut random);
     let mut nodes = records(&mut tree);
@@ -47,7 +47,7 @@ fn grow(tree: &mut Simulator, random: &mut Random) {
     for node in 1..RECORDS {
         let parent = node - 1 - random.below(node.min(NEAR));
         let action = Action::ACTIONS[random.below(Action::ACTIONS.len())];
-        tree.insert_action(parent, action);
+        tree.insert_action(parent, action, ActionSet::new());
         tree.backpropagate_score(node, 0, score(random));
     }
 }
@@ -64,6 +64,7 @@ fn records(tree: &mut Simulator) -> Vec<Node> {
         visits: node.state.visits,
         score_sum: node.state.score_sum,
         max_score: node.state.max_score,
+        unused: node.state.available_moves.bits(),
     };
     tree.tree_mut().nodes.iter().map(record).collect()
 }
@@ -84,7 +85,7 @@ fn back_round(tree: &mut Simulator, nodes: &mut [Node], random: &mut Random) -> 
         0
     });
     let call = |(start, score)| Call {
-        entry: time_of(SUCCESS, || backpropagate(nodes, start, score).into()),
+        entry: time_of(SUCCESS, || propagate(nodes, start, score)),
         scan: scan(nodes),
         rust: each(rust.0, CALLS),
     };
@@ -99,7 +100,7 @@ fn solution_round(tree: &Simulator, nodes: &mut [Node]) -> Vec<Call> {
     });
     let call = |_| Call {
         entry: time_of(rust.1 / CALLS as u64, || {
-            let solution = solution(nodes, &mut room);
+            let solution = solve(nodes, &mut room);
             (solution.length + solution.node) as u64
         }),
         scan: scan(nodes),
@@ -109,7 +110,17 @@ fn solution_round(tree: &Simulator, nodes: &mut [Node]) -> Vec<Call> {
 }
 
 fn scan(nodes: &mut [Node]) -> f64 {
-    time_of(UNKNOWN_NODE, || backpropagate(nodes, RECORDS, 0.0).into())
+    time_of(UNKNOWN_NODE, || propagate(nodes, RECORDS, 0.0))
+}
+
+/// From `start` up to record 0. Answers 0, or the number of a refusal.
+fn propagate(nodes: &mut [Node], start: usize, score: f32) -> u64 {
+    let answer = backpropagate(nodes, RECORDS, start, 0, score);
+    answer.map_or_else(|refusal| refusal.number().into(), |()| SUCCESS)
+}
+
+fn solve(nodes: &[Node], room: &mut [u8]) -> Solution {
+    solution(nodes, RECORDS, room).expect("a sound tree, and room for all")
 }
 
 /// What one call takes, which must answer as expected.
@@ -133,9 +144,9 @@ fn figures(name: &str, rounds: Vec<Vec<Call>>) -> [Figure; 2] {
 fn check_same(tree: &mut Simulator, nodes: &[Node]) {
     assert!(records(tree) == nodes, "the records differ");
     let mut room = [0; RECORDS];
-    let ours = solution(nodes, &mut room);
+    let ours = solve(nodes, &mut room);
     let (actions, node) = tree.solution_node();
     let actions: Vec<u8> = actions.into_iter().map(|action| action as u8).collect();
-    assert_eq!((ours.number, ours.node), (0, node), "the solutions end elsewhere");
+    assert_eq!(ours.node, node, "the solutions end elsewhere");
     assert_eq!(room[..ours.length], actions, "the solutions differ");
 }

@@ -131,17 +131,21 @@ static void check_replays(void)
 
 enum { COUNT = 4, RECORDS = 5 };
 
+/* A set of every move, and one with bit 31. */
+#define ALL_MOVES UINT32_C(0x7FFFFFFF)
+#define NO_SET UINT32_C(0x80000000)
+
 static crafty_node nodes[RECORDS];
 static crafty_node before[RECORDS];
 static size_t numbers[RECORDS];
 
 static void grow(void)
 {
-    nodes[0] = (crafty_node){ 0, 31, 5, 2.5f, 0.75f };
-    nodes[1] = (crafty_node){ 0, 0, 3, -1, 0.5f };
-    nodes[2] = (crafty_node){ 0, 30, 0, 0, 0.5f };
-    nodes[3] = (crafty_node){ 1, 7, 0, 0, 0 };
-    nodes[4] = (crafty_node){ 9, 99, NAN, -8, -0.0f };
+    nodes[0] = (crafty_node){ 0, 31, 5, 2.5f, 0.75f, ALL_MOVES };
+    nodes[1] = (crafty_node){ 0, 0, 3, -1, 0.5f, 1 };
+    nodes[2] = (crafty_node){ 0, 30, 0, 0, 0.5f, 2 };
+    nodes[3] = (crafty_node){ 1, 7, 0, 0, 0, 3 };
+    nodes[4] = (crafty_node){ 9, 99, NAN, -8, -0.0f, NO_SET };
     memcpy(before, nodes, sizeof nodes);
     for (size_t i = 0; i < RECORDS; i++) numbers[i] = UNTOUCHED;
 }
@@ -149,7 +153,8 @@ static void grow(void)
 /* To the bit, without the bytes between the fields. */
 static bool is_same(const crafty_node *a, const crafty_node *b)
 {
-    return a->parent == b->parent && a->action == b->action && memcmp(&a->visits, &b->visits, sizeof a->visits) == 0
+    return a->parent == b->parent && a->action == b->action && a->unused == b->unused
+        && memcmp(&a->visits, &b->visits, sizeof a->visits) == 0
         && memcmp(&a->score_sum, &b->score_sum, sizeof a->score_sum) == 0
         && memcmp(&a->max_score, &b->max_score, sizeof a->max_score) == 0;
 }
@@ -162,14 +167,14 @@ static void expect_records(crafty_answer answer, uint32_t number, size_t value, 
     grow();
 }
 
-static crafty_answer plant(size_t length)
+static crafty_answer plant(size_t length, uint32_t unused)
 {
-    return crafty_tree_new(nodes, length);
+    return crafty_tree_new(nodes, length, unused);
 }
 
-static crafty_answer insert(size_t length, size_t count, size_t parent, uint8_t action)
+static crafty_answer insert(size_t length, size_t count, size_t parent, uint8_t action, uint32_t unused)
 {
-    return crafty_tree_insert(nodes, length, count, parent, action);
+    return crafty_tree_insert(nodes, length, count, parent, action, unused);
 }
 
 static crafty_answer propagate(size_t count, size_t start, size_t target, float score)
@@ -189,29 +194,41 @@ static crafty_answer solve(size_t room_length, size_t count, size_t node)
     return (crafty_answer){ solution.number, solution.value };
 }
 
+static void check_layout(void)
+{
+    expect(offsetof(crafty_node, parent) == 0 && offsetof(crafty_node, action) == 8, "where a record has its place");
+    expect(offsetof(crafty_node, visits) == 12 && offsetof(crafty_node, score_sum) == 16, "where a record has its scores");
+    expect(offsetof(crafty_node, max_score) == 20 && offsetof(crafty_node, unused) == 24, "where a record has its moves");
+    expect(sizeof(crafty_node) == 32, "how long a record is");
+}
+
 static void check_growing(void)
 {
-    before[0] = (crafty_node){ 0, 31, 0, 0, 0 };
-    expect_records(plant(1), CRAFTY_SUCCESS, 1, "a new tree");
-    expect_records(plant(0), CRAFTY_NO_ROOM, 1, "refusal 6 of a new tree");
-    before[4] = (crafty_node){ 3, 30, 0, 0, 0 };
-    expect_records(insert(5, 4, 3, 30), CRAFTY_SUCCESS, 4, "an insertion");
-    expect_records(insert(4, 4, 3, 30), CRAFTY_NO_ROOM, 5, "refusal 6 of an insertion counts records");
-    expect_records(insert(4, 4, 4, 30), CRAFTY_UNKNOWN_NODE, 0, "refusal 8 of an insertion, before 6");
-    expect_records(insert(5, 0, 4, 30), CRAFTY_UNSOUND_TREE, 0, "refusal 7 of an insertion, before 8");
-    expect_records(insert(5, 0, 4, 31), CRAFTY_UNKNOWN_ACTION, 0, "refusal 3 of an insertion, before 7");
+    before[0] = (crafty_node){ 0, 31, 0, 0, 0, ALL_MOVES };
+    expect_records(plant(1, ALL_MOVES), CRAFTY_SUCCESS, 1, "a new tree");
+    expect_records(plant(0, ALL_MOVES), CRAFTY_NO_ROOM, 1, "refusal 6 of a new tree");
+    expect_records(plant(1, NO_SET), CRAFTY_OUTSIDE_LIMITS, 0, "refusal 1 of a new tree");
+    expect_records(plant(0, UINT32_MAX), CRAFTY_OUTSIDE_LIMITS, 0, "refusal 1 of a new tree, before 6");
+    before[4] = (crafty_node){ 3, 30, 0, 0, 0, ALL_MOVES };
+    expect_records(insert(5, 4, 3, 30, ALL_MOVES), CRAFTY_SUCCESS, 4, "an insertion");
+    expect_records(insert(4, 4, 3, 30, 0), CRAFTY_NO_ROOM, 5, "refusal 6 of an insertion counts records");
+    expect_records(insert(4, 4, 4, 30, 0), CRAFTY_UNKNOWN_NODE, 0, "refusal 8 of an insertion, before 6");
+    expect_records(insert(5, 0, 4, 30, 0), CRAFTY_UNSOUND_TREE, 0, "refusal 7 of an insertion, before 8");
+    expect_records(insert(5, 0, 4, 31, 0), CRAFTY_UNKNOWN_ACTION, 0, "refusal 3 of an insertion, before 7");
+    expect_records(insert(5, 4, 3, 30, NO_SET), CRAFTY_OUTSIDE_LIMITS, 0, "refusal 1 of an insertion");
+    expect_records(insert(5, 0, 4, 31, UINT32_MAX), CRAFTY_OUTSIDE_LIMITS, 0, "refusal 1 of an insertion, before 3");
 }
 
 static void check_propagation(void)
 {
-    before[3] = (crafty_node){ 1, 7, 1, 1, 1 };
-    before[1] = (crafty_node){ 0, 0, 4, 0, 1 };
+    before[3] = (crafty_node){ 1, 7, 1, 1, 1, 3 };
+    before[1] = (crafty_node){ 0, 0, 4, 0, 1, 1 };
     expect_records(propagate(COUNT, 3, 1, 1), CRAFTY_SUCCESS, 0, "a score from 3 up to 1");
-    before[2] = (crafty_node){ 0, 30, 1, -1, 0.5f };
+    before[2] = (crafty_node){ 0, 30, 1, -1, 0.5f, 2 };
     expect_records(propagate(COUNT, 2, 2, -1), CRAFTY_SUCCESS, 0, "a score of one record");
-    before[3] = (crafty_node){ 1, 7, 1, 0, 0 };
+    before[3] = (crafty_node){ 1, 7, 1, 0, 0, 3 };
     expect_records(propagate(COUNT, 3, 3, -0.0f), CRAFTY_SUCCESS, 0, "+0 stays where -0 comes");
-    before[2] = (crafty_node){ 0, 30, 1, 1e-40f, 0.5f };
+    before[2] = (crafty_node){ 0, 30, 1, 1e-40f, 0.5f, 2 };
     expect_records(propagate(COUNT, 2, 2, 1e-40f), CRAFTY_SUCCESS, 0, "a subnormal score is kept");
 
     expect_records(propagate(COUNT, 4, 0, 2), CRAFTY_UNKNOWN_NODE, 0, "refusal 8 of a start");
@@ -240,7 +257,7 @@ static void check_full_visits(void)
     visit_root(16777216, 16777216);
     expect_records(propagate(COUNT, 3, 0, 2), CRAFTY_BAD_SCORE, 0, "refusal 10 before 11");
     visit_root(16777216, 16777216);
-    before[2] = (crafty_node){ 0, 30, 1, 0.25f, 0.5f };
+    before[2] = (crafty_node){ 0, 30, 1, 0.25f, 0.5f, 2 };
     expect_records(propagate(COUNT, 2, 2, 0.25f), CRAFTY_SUCCESS, 0, "full visits beside the way");
 }
 
@@ -275,29 +292,30 @@ struct placed {
 };
 
 static const struct placed unsound[] = {
-    { 0, { 1, 31, 0, 0, 0 }, "refusal 7 of a root with a parent" },
-    { 0, { 0, 30, 0, 0, 0 }, "refusal 7 of a root with an action" },
-    { 2, { 2, 0, 0, 0, 0 }, "refusal 7 of a record that is its own parent" },
-    { 2, { 0, 31, 0, 0, 0 }, "refusal 7 of a record with action 31" },
-    { 2, { 0, 0, NAN, 0, 0 }, "refusal 7 of visits that are a NaN" },
-    { 2, { 0, 0, -0x1p-149f, 0, 0 }, "refusal 7 of visits below 0" },
-    { 2, { 0, 0, 0x1p-149f, 0, 0 }, "refusal 7 of visits that are not whole" },
-    { 2, { 0, 0, 16777218, 0, 0 }, "refusal 7 of too many visits" },
-    { 2, { 0, 0, 2, NAN, 0 }, "refusal 7 of a sum that is a NaN" },
-    { 2, { 0, 0, 2, 0x1.000002p1f, 0 }, "refusal 7 of a sum above the visits" },
-    { 2, { 0, 0, 2, -0x1.000002p1f, 0 }, "refusal 7 of a sum as far below 0" },
-    { 2, { 0, 0, 2, 0, NAN }, "refusal 7 of a maximum that is a NaN" },
-    { 2, { 0, 0, 2, 0, -0.0f }, "refusal 7 of a maximum of minus zero" },
-    { 2, { 0, 0, 2, 0, -0x1p-149f }, "refusal 7 of a maximum below 0" },
-    { 2, { 0, 0, 2, 0, 0x1.000002p0f }, "refusal 7 of a maximum above 1" },
+    { 0, { 1, 31, 0, 0, 0, 0 }, "refusal 7 of a root with a parent" },
+    { 0, { 0, 30, 0, 0, 0, 0 }, "refusal 7 of a root with an action" },
+    { 2, { 2, 0, 0, 0, 0, 0 }, "refusal 7 of a record that is its own parent" },
+    { 2, { 0, 31, 0, 0, 0, 0 }, "refusal 7 of a record with action 31" },
+    { 2, { 0, 0, NAN, 0, 0, 0 }, "refusal 7 of visits that are a NaN" },
+    { 2, { 0, 0, -0x1p-149f, 0, 0, 0 }, "refusal 7 of visits below 0" },
+    { 2, { 0, 0, 0x1p-149f, 0, 0, 0 }, "refusal 7 of visits that are not whole" },
+    { 2, { 0, 0, 16777218, 0, 0, 0 }, "refusal 7 of too many visits" },
+    { 2, { 0, 0, 2, NAN, 0, 0 }, "refusal 7 of a sum that is a NaN" },
+    { 2, { 0, 0, 2, 0x1.000002p1f, 0, 0 }, "refusal 7 of a sum above the visits" },
+    { 2, { 0, 0, 2, -0x1.000002p1f, 0, 0 }, "refusal 7 of a sum as far below 0" },
+    { 2, { 0, 0, 2, 0, NAN, 0 }, "refusal 7 of a maximum that is a NaN" },
+    { 2, { 0, 0, 2, 0, -0.0f, 0 }, "refusal 7 of a maximum of minus zero" },
+    { 2, { 0, 0, 2, 0, -0x1p-149f, 0 }, "refusal 7 of a maximum below 0" },
+    { 2, { 0, 0, 2, 0, 0x1.000002p0f, 0 }, "refusal 7 of a maximum above 1" },
+    { 2, { 0, 0, 2, 0, 0, NO_SET }, "refusal 7 of unused moves with bit 31" },
 };
 
 static const struct placed sound[] = {
-    { 0, { 0, 31, 0, 0, 0 }, "a root that was never visited" },
-    { 2, { 1, 30, 16777216, 16777216, 1 }, "a record with the most of all" },
-    { 2, { 0, 0, 16777216, -16777216, 0 }, "a record with the least sum" },
-    { 2, { 0, 0, 1, 0, 0x1p-149f }, "a record with the least maximum above 0" },
-    { 2, { 0, 0, -0.0f, -0.0f, 0 }, "a record with visits of minus zero" },
+    { 0, { 0, 31, 0, 0, 0, 0 }, "a root that was never visited" },
+    { 2, { 1, 30, 16777216, 16777216, 1, ALL_MOVES }, "a record with the most of all" },
+    { 2, { 0, 0, 16777216, -16777216, 0, 0 }, "a record with the least sum" },
+    { 2, { 0, 0, 1, 0, 0x1p-149f, 0 }, "a record with the least maximum above 0" },
+    { 2, { 0, 0, -0.0f, -0.0f, 0, 0 }, "a record with visits of minus zero" },
 };
 
 static void place(const struct placed *p)
@@ -309,7 +327,7 @@ static void place(const struct placed *p)
 static void expect_unsound(size_t count, const struct placed *p)
 {
     place(p);
-    expect_records(insert(RECORDS, count, 0, 0), CRAFTY_UNSOUND_TREE, 0, p->what);
+    expect_records(insert(RECORDS, count, 0, 0, 0), CRAFTY_UNSOUND_TREE, 0, p->what);
     place(p);
     expect_records(propagate(count, 0, 0, 0), CRAFTY_UNSOUND_TREE, 0, p->what);
     place(p);
@@ -320,8 +338,8 @@ static void expect_unsound(size_t count, const struct placed *p)
 
 static void check_soundness(void)
 {
-    static const struct placed none = { 2, { 0, 0, 0, 0, 0 }, "refusal 7 of a count of 0" };
-    static const struct placed all = { 4, { 0, 0, 0, 0, 0 }, "refusal 7 of a count above the records" };
+    static const struct placed none = { 2, { 0, 0, 0, 0, 0, 0 }, "refusal 7 of a count of 0" };
+    static const struct placed all = { 4, { 0, 0, 0, 0, 0, 0 }, "refusal 7 of a count above the records" };
     expect_unsound(0, &none);
     expect_unsound(RECORDS + 1, &all);
     place(&all);
@@ -335,6 +353,7 @@ static void check_soundness(void)
 
 static void check_trees(void)
 {
+    check_layout();
     grow();
     check_growing();
     check_propagation();

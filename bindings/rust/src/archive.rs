@@ -1,6 +1,7 @@
 //! The functions of include/crafty.h. A slice of Rust keeps all that a host owes of a pointer and a length, and every
 //! function takes any numbers and bytes, so each call is safe.
 
+use crate::tree::Node;
 use crate::Refusal;
 
 #[repr(C)]
@@ -12,6 +13,21 @@ pub struct Answer {
 impl Answer {
     pub fn told(self) -> Result<usize, Refusal> {
         Refusal::of_number(self.number, self.value).map_or(Ok(self.value), Err)
+    }
+}
+
+#[repr(C)]
+pub struct Solution {
+    number: u32,
+    value: usize,
+    node: usize,
+}
+
+impl Solution {
+    /// The value, and the last node.
+    pub fn told(self) -> Result<(usize, usize), Refusal> {
+        let Solution { number, value, node } = self;
+        Answer { number, value }.told().map(|value| (value, node))
     }
 }
 
@@ -64,6 +80,38 @@ extern "C" {
         out_length: usize,
     ) -> Answer;
     fn crafty_macro_time(list: *const u8, list_length: usize) -> Answer;
+    fn crafty_tree_new(nodes: *mut Node, nodes_length: usize, unused: u32) -> Answer;
+    fn crafty_tree_insert(
+        nodes: *mut Node,
+        nodes_length: usize,
+        count: usize,
+        parent: usize,
+        action: u8,
+        unused: u32,
+    ) -> Answer;
+    fn crafty_tree_backpropagate(
+        nodes: *mut Node,
+        nodes_length: usize,
+        count: usize,
+        start: usize,
+        target: usize,
+        score: f32,
+    ) -> Answer;
+    fn crafty_tree_children(
+        nodes: *const Node,
+        nodes_length: usize,
+        out: *mut usize,
+        out_length: usize,
+        count: usize,
+        node: usize,
+    ) -> Answer;
+    fn crafty_tree_solution(
+        nodes: *const Node,
+        nodes_length: usize,
+        out: *mut u8,
+        out_length: usize,
+        count: usize,
+    ) -> Solution;
 }
 
 pub fn replay(context: [u32; 15], strict: bool, list: &[u8], out: &mut [u32]) -> Answer {
@@ -93,4 +141,40 @@ pub fn write_list(list: &[u8], out: &mut [u8]) -> Answer {
 
 pub fn macro_time(list: &[u8]) -> Answer {
     unsafe { crafty_macro_time(list.as_ptr(), list.len()) }
+}
+
+pub fn tree_new(nodes: &mut [Node], unused: u32) -> Answer {
+    unsafe { crafty_tree_new(nodes.as_mut_ptr(), nodes.len(), unused) }
+}
+
+pub fn tree_insert(
+    nodes: &mut [Node],
+    count: usize,
+    parent: usize,
+    action: u8,
+    unused: u32,
+) -> Answer {
+    let (nodes, length) = (nodes.as_mut_ptr(), nodes.len());
+    unsafe { crafty_tree_insert(nodes, length, count, parent, action, unused) }
+}
+
+pub fn tree_backpropagate(
+    nodes: &mut [Node],
+    count: usize,
+    start: usize,
+    target: usize,
+    score: f32,
+) -> Answer {
+    let (nodes, length) = (nodes.as_mut_ptr(), nodes.len());
+    unsafe { crafty_tree_backpropagate(nodes, length, count, start, target, score) }
+}
+
+pub fn tree_children(nodes: &[Node], out: &mut [usize], count: usize, node: usize) -> Answer {
+    let (nodes, length) = (nodes.as_ptr(), nodes.len());
+    unsafe { crafty_tree_children(nodes, length, out.as_mut_ptr(), out.len(), count, node) }
+}
+
+pub fn tree_solution(nodes: &[Node], out: &mut [u8], count: usize) -> Solution {
+    let (nodes, length) = (nodes.as_ptr(), nodes.len());
+    unsafe { crafty_tree_solution(nodes, length, out.as_mut_ptr(), out.len(), count) }
 }

@@ -4,13 +4,15 @@
 //! Every bit of an answer rests on the floating-point environment in which a program starts: round to nearest, no flush
 //! to zero and no denormals are zero, no exception unmasked. Rust itself takes it for granted, but C code in the same
 //! process can change it. In another environment nothing is promised: rounding upward, a craft that scores 3E94BC6A
-//! scores 3E94BC6C; with an unmasked inexact exception a score ends the process.
+//! scores 3E94BC6C; with flush to zero a back-propagated 1e-40 is stored as 0; with an unmasked inexact exception a
+//! score ends the process.
 
 mod archive;
 mod context;
 pub mod lent;
 mod refusal;
 mod report;
+pub mod tree;
 
 pub use context::{Context, Mode};
 pub use refusal::Refusal;

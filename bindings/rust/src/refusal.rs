@@ -5,14 +5,24 @@ use std::fmt;
 
 #[derive(Clone, Copy, Debug, PartialEq, Eq)]
 pub enum Refusal {
-    /// A number of the context is outside its limit.
+    /// A number of the context is outside its limit, or a set has bit 31.
     OutsideLimits,
-    /// An action's number is above 30: its first place in the list.
+    /// An action's number is above 30: its first place in the list, 0 for a single one.
     UnknownAction { place: usize },
     /// A word is no action's name: the byte where the first such word starts.
     UnknownWord { offset: usize },
     /// Lent room is too short: how much is needed.
     NoRoom { needed: usize },
+    /// The tree is not sound, as said at [`Node`](crate::tree::Node).
+    UnsoundTree,
+    /// A node's number is not below the count.
+    UnknownNode,
+    /// The target is neither the start nor above it.
+    NotAbove,
+    /// A score is a NaN or outside -1 to 1.
+    BadScore,
+    /// A record on the way has 16,777,216 visits.
+    VisitsFull,
     /// The first line is not fifteen numbers, parted by single spaces.
     MalformedLine,
     /// An input, or a list to write as text or to time, is above 65,536 bytes.
@@ -28,6 +38,11 @@ impl Refusal {
             3 => Some(Refusal::UnknownAction { place: value }),
             5 => Some(Refusal::UnknownWord { offset: value }),
             6 => Some(Refusal::NoRoom { needed: value }),
+            7 => Some(Refusal::UnsoundTree),
+            8 => Some(Refusal::UnknownNode),
+            9 => Some(Refusal::NotAbove),
+            10 => Some(Refusal::BadScore),
+            11 => Some(Refusal::VisitsFull),
             12 => Some(Refusal::MalformedLine),
             13 => Some(Refusal::TooLong),
             _ => unreachable!("no function refuses by {number}"),
@@ -41,6 +56,11 @@ impl Refusal {
             Refusal::UnknownAction { .. } => 3,
             Refusal::UnknownWord { .. } => 5,
             Refusal::NoRoom { .. } => 6,
+            Refusal::UnsoundTree => 7,
+            Refusal::UnknownNode => 8,
+            Refusal::NotAbove => 9,
+            Refusal::BadScore => 10,
+            Refusal::VisitsFull => 11,
             Refusal::MalformedLine => 12,
             Refusal::TooLong => 13,
         }
@@ -50,7 +70,9 @@ impl Refusal {
 impl fmt::Display for Refusal {
     fn fmt(&self, out: &mut fmt::Formatter) -> fmt::Result {
         match self {
-            Refusal::OutsideLimits => write!(out, "a number of the context is outside its limit"),
+            Refusal::OutsideLimits => {
+                write!(out, "a number of the context or a set is outside its limit")
+            }
             Refusal::UnknownAction { place } => {
                 write!(out, "no action has the number at place {place}")
             }
@@ -58,6 +80,11 @@ impl fmt::Display for Refusal {
                 write!(out, "the word at byte {offset} is no action's name")
             }
             Refusal::NoRoom { needed } => write!(out, "room for {needed} is needed"),
+            Refusal::UnsoundTree => write!(out, "the tree is not sound"),
+            Refusal::UnknownNode => write!(out, "a node's number is not below the count"),
+            Refusal::NotAbove => write!(out, "the target is neither the start nor above it"),
+            Refusal::BadScore => write!(out, "the score is not from -1 to 1"),
+            Refusal::VisitsFull => write!(out, "a record on the way has all its visits"),
             Refusal::MalformedLine => write!(out, "the first line is not fifteen numbers"),
             Refusal::TooLong => write!(out, "more than 65,536 bytes"),
         }

@@ -101,16 +101,23 @@ pub mod simulator {
             std::iter::successors(Some(index), parent).skip(1).count()
         }
 
-        /// A tree of its root alone.
-        pub fn of_root(context: &'a CraftContext) -> Self {
-            Self::from_context(context, SearchOptions::default())
+        /// A tree of its root alone, with these moves.
+        pub fn of_root(context: &'a CraftContext, available_moves: crate::ActionSet) -> Self {
+            let root = CraftState { available_moves, ..CraftState::new(context) };
+            Self::from_state(root, SearchOptions::default())
         }
 
         /// A state holds its node's number as its progress, so that `solution_node` tells it.
-        pub fn insert_action(&mut self, parent: usize, action: Action) -> usize {
+        pub fn insert_action(
+            &mut self,
+            parent: usize,
+            action: Action,
+            available_moves: crate::ActionSet,
+        ) -> usize {
             let progress = self.tree.nodes.len() as u32;
             let start = CraftState::new(self.tree.get(0).state.context);
-            self.tree.insert(parent, CraftState { progress, action: Some(action), ..start })
+            let action = Some(action);
+            self.tree.insert(parent, CraftState { progress, action, available_moves, ..start })
         }
 
         pub fn tree_mut(&mut self) -> &mut Arena<CraftState<'a>> {

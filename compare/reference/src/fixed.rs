@@ -8,7 +8,7 @@ use crafty::Action;
 
 const UNKNOWN: [u32; 3] = [31, 32, 255];
 const EDGE_ACTIONS: [u32; 4] = [0, 30, 31, 255];
-const EDGE_SETS: [u32; 6] = [0, 1, 1 << 30, (1 << 31) - 1, 1 << 31, u32::MAX];
+pub const EDGE_SETS: [u32; 6] = [0, 1, 1 << 30, (1 << 31) - 1, 1 << 31, u32::MAX];
 /// 256 is 0 as one byte and the greatest number is -1 with a sign: a limit must be tested before.
 const TIMERS: &[u32] = &[0, 1, 8, 9, 256];
 const FACTORS: &[u32] = &[0, 1, 200_070, 200_071, u32::MAX];

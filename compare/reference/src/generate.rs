@@ -97,19 +97,20 @@ fn list(random: &mut Random) -> Vec<u32> {
     list
 }
 
-/// Even, sparse and dense sets, one in eight with bit 31.
-fn set(random: &mut Random) -> u32 {
+/// One in eight with bit 31.
+pub fn set(random: &mut Random) -> u32 {
+    known_set(random) | u32::from(random.one_in(8)) << 31
+}
+
+/// Even, sparse and dense sets.
+pub fn known_set(random: &mut Random) -> u32 {
     let bits = match random.below(4) {
         0 => random.bits() & random.bits() & random.bits(),
         1 => random.bits() | random.bits() | random.bits(),
         2 => 1 << random.below(KNOWN),
         _ => random.bits(),
     };
-    if random.one_in(8) {
-        bits | 1 << 31
-    } else {
-        bits & !(1 << 31)
-    }
+    bits & !(1 << KNOWN)
 }
 
 /// The inputs of a formula, each by its own limit.

@@ -28,7 +28,7 @@ pub fn answer(case: &Case) -> String {
     }
 }
 
-fn set(bits: u32) -> Result<ActionSet, Refusal> {
+pub fn set(bits: u32) -> Result<ActionSet, Refusal> {
     if bits >> 31 == 1 {
         return Err(Refusal::Outside);
     }

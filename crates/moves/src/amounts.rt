@@ -27,7 +27,7 @@ fn amount(attribute: Amount) -> u32
     so_much
 }
 
-fn is_payable(points: u32, n: u8) -> bool
+pub fn is_payable(points: u32, n: u8) -> bool
     ensures { λ r. ⌜ r ≡ affordable points (attributesOf n .«cp_cost») ⌝ }
 {
     let row = action::attributes_of(n);
@@ -37,27 +37,6 @@ fn is_payable(points: u32, n: u8) -> bool
 
 // The full price, as `can_pay`. Points for the dearest are enough for all. For the loop of replay alone, as `step::execute`.
 pub fn keep_payable(points: u32, set: u32) -> u32
-    requires { ⌜ SetIn set ⌝ }
-    ensures { λ r. ⌜ (r ≡ keepOf (λ n. affordable points (attributesOf n .«cp_cost»)) set) × SetIn r ⌝ }
-{
-    if points >= action::DEAREST {
-        return set;
-    }
-    let mut kept = set;
-    let mut remaining = set;
-    while remaining != 0 {
-        let n = bits::next(remaining);
-        let b = bits::bit(n);
-        remaining -= b;
-        if !is_payable(points, n) {
-            kept -= b;
-        }
-    }
-    kept
-}
-
-// The same for every other caller.
-pub fn keep_payable_single(points: u32, set: u32) -> u32
     requires { ⌜ SetIn set ⌝ }
     ensures { λ r. ⌜ (r ≡ keepOf (λ n. affordable points (attributesOf n .«cp_cost»)) set) × SetIn r ⌝ }
 {

@@ -3,12 +3,10 @@ ghost use mathlib.Core.Path.{_≡_};
 ghost use Rattle.action.specs.Table.{attributesOf};
 ghost use Rattle.action_set.specs.Sets.{SetIn, keepOf};
 ghost use Rattle.craft_state.specs.Inside.{CraftIn};
-ghost use Rattle.moves.specs.Modes.{strict};
 ghost use Rattle.moves.specs.Moves.{movesOf};
 ghost use Rattle.moves.specs.inner.Sets.{strictBeyond};
 use super::amounts::keep_finishing;
 use super::amounts::keep_payable;
-use super::amounts::keep_payable_single;
 use super::amounts::progress_moves;
 use super::legal::has_ended;
 use super::mode::Mode;
@@ -53,24 +51,4 @@ pub fn moves_at_once(context: CraftContext, state: CraftState, mode: Mode) -> u3
         return keep_payable(state.cp, strict_part(context, state, own));
     }
     keep_payable(state.cp, own)
-}
-
-// In strict mode, for every other caller.
-pub fn strict_at_once(context: CraftContext, state: CraftState) -> u32
-    requires { ⌜ CraftIn context state ⌝ }
-    ensures { λ r. ⌜ (r ≡ movesOf context state strict) × SetIn r ⌝ }
-{
-    if has_ended(context, state) {
-        return 0;
-    }
-    let pool = context.action_pool;
-    let set = unless(pool.0, QUALITY, state.quality < context.quality_target);
-    let own = own_moves(context, state, set);
-    if is_eye_alone(context, state) {
-        return keep_payable_single(state.cp, within(own, ONLY_TRAINED_EYE));
-    }
-    let strict = strict_moves(context, state, own);
-    let kind = kind_moves(context, state, strict);
-    let finish = keep_finishing(context, state, within(kind, PROGRESS));
-    keep_payable_single(state.cp, progress_moves(context, state, kind, finish))
 }

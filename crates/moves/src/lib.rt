@@ -6,13 +6,14 @@ mod legal;
 mod mode;
 mod own;
 mod sets;
+mod single;
 mod strict;
 
 pub use at_once::moves_at_once;
-pub use at_once::strict_at_once;
 pub use legal::has_ended;
 pub use legal::is_legal;
 pub use legal::legal_moves;
 pub use legal::passes;
 pub use mode::Mode;
 pub use mode::mode_of;
+pub use single::strict_at_once;

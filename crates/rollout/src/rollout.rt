@@ -4,7 +4,7 @@ ghost use Prim.Native.Nat.{_≤_};
 ghost use lib.ListN.{length, drop};
 ghost use Rattle.rollout.specs.Rollout.{rolledFrom};
 ghost use Rattle.rollout.specs.inner.Movable.{Movable};
-ghost use Rattle.rollout.specs.inner.Within.{Within};
+ghost use Rattle.rollout.specs.inner.Ends.{EndsWithin};
 use super::draws::Drawn;
 use super::draws::draw;
 use craft_context::CraftContext;
@@ -27,7 +27,7 @@ pub fn roll_out(
     first: usize,
 ) -> Rolled
     requires { ⌜ Movable context start «start_moves» × (first ≤ length (now draws)) ⌝ }
-    ensures { λ r. ⌜ (r ≡ rolledFrom context start «start_moves» first (drop first (now (draws .entry)))) × Within (length (now (draws .entry))) r ⌝ }
+    ensures { λ r. ⌜ (r ≡ rolledFrom context start «start_moves» first (drop first (now (draws .entry)))) × EndsWithin (length (now (draws .entry))) r ⌝ }
 {
     let mut state = start;
     let mut moves = start_moves;

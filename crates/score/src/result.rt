@@ -3,7 +3,7 @@ ghost use mathlib.Core.Path.{_≡_};
 ghost use Rattle.craft_state.specs.Inside.{CraftIn};
 ghost use Rattle.score.specs.Result.{judgedBy, resultOf, ScoreIsNumber};
 use super::scoring::score;
-use super::scoring::score_single;
+use super::single::judge_single;
 use craft_context::CraftContext;
 use craft_state::CraftState;
 use moves::Mode;
@@ -27,28 +27,6 @@ pub fn judge(context: CraftContext, state: CraftState, moves: u32) -> CraftResul
     let is_late = state.step >= context.step_max;
     if state.progress >= context.progress_target {
         return CraftResult::Finished(score(context, state));
-    }
-    if is_worn {
-        return CraftResult::DurabilityFailure;
-    }
-    if is_late {
-        return CraftResult::MaxStepsFailure;
-    }
-    if moves == 0 {
-        return CraftResult::InvalidActionFailure;
-    }
-    CraftResult::Continuing
-}
-
-// The same for every other caller.
-pub fn judge_single(context: CraftContext, state: CraftState, moves: u32) -> CraftResult
-    requires { ⌜ CraftIn context state ⌝ }
-    ensures { λ r. ⌜ (r ≡ judgedBy context state moves) × ScoreIsNumber r ⌝ }
-{
-    let is_worn = state.durability <= 0;
-    let is_late = state.step >= context.step_max;
-    if state.progress >= context.progress_target {
-        return CraftResult::Finished(score_single(context, state));
     }
     if is_worn {
         return CraftResult::DurabilityFailure;

@@ -49,14 +49,14 @@ fn whole_part(bonus: f32, value: u32, target: u32) -> f32
 }
 
 // The share of the steps that is left: minus infinity where step_max is 0, since a step is at least 1.
-fn fewer_steps(step: u8, step_max: u8) -> f32
+pub fn fewer_steps(step: u8, step_max: u8) -> f32
     ensures { λ r. ⌜ r ≡ fewerOf step «step_max» ⌝ }
 {
     1.0 - step as f32 / step_max as f32
 }
 
 // Each sum is rounded, so the parts are added from left to right.
-fn weighed(context: CraftContext, state: CraftState) -> f32
+pub fn weighed(context: CraftContext, state: CraftState) -> f32
     ensures { λ r. ⌜ r ≡ weighedOf context state ⌝ }
 {
     let progress = whole_part(PROGRESS_BONUS, state.progress, context.progress_target);
@@ -73,17 +73,6 @@ fn weighed(context: CraftContext, state: CraftState) -> f32
 
 // Without a quality target the steps alone count. For the loop of replay alone, as `step::execute`.
 pub fn score(context: CraftContext, state: CraftState) -> f32
-    requires { ⌜ CraftIn context state ⌝ }
-    ensures { λ r. ⌜ (r ≡ scoreOf context state) × T (not (isNan r)) ⌝ }
-{
-    if context.quality_target == 0 {
-        return fewer_steps(state.step, context.step_max);
-    }
-    weighed(context, state)
-}
-
-// The same for every other caller.
-pub fn score_single(context: CraftContext, state: CraftState) -> f32
     requires { ⌜ CraftIn context state ⌝ }
     ensures { λ r. ⌜ (r ≡ scoreOf context state) × T (not (isNan r)) ⌝ }
 {

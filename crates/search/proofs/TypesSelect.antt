@@ -59,6 +59,9 @@ chosen′ = struct′ R.the-type R′.the-laws R′.the-copy R′.the-plain
 
 -- ---- the best child
 
+abbrev pub top-of′ : PlainFn
+top-of′ = record { takes = usize′ ∷ []; gives = usize′; asks = nothing-asked; says = λ a r. r ≡ topOf (a .0) }
+
 abbrev pub none′ : PlainFn
 none′ = record { takes = []; gives = best′; asks = nothing-asked; says = λ _ r. r ≡ noBest }
 

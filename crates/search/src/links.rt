@@ -3,13 +3,23 @@
 ghost use mathlib.Core.Path.{_≡_};
 ghost use Prim.Native.Nat.{_*_, _<_};
 ghost use lib.ListN.{length};
-ghost use Rattle.search.specs.inner.Links.{linked, olderAt, lastLink, linkOf};
+ghost use Rattle.search.specs.inner.Links.{linked, olderAt, lastLink, topOf, linkOf};
 
 // As many records as the index has room for: those of a search that stores few whole paths.
-pub const LINKED: usize = 8192;
+const LINKED: usize = 8192;
 
 // The numbers of the index.
 pub const LINKS: usize = 16384;
+
+// The lesser of count and room.
+pub fn top_of(count: usize) -> usize
+    ensures { λ r. ⌜ r ≡ topOf count ⌝ }
+{
+    if count < LINKED {
+        return count;
+    }
+    LINKED
+}
 
 // A record past the index has no child before it.
 pub fn last_child(links: &[u32], k: usize) -> usize

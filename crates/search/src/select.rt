@@ -14,9 +14,9 @@ ghost use Rattle.search.specs.Select.{lnOf, weightsOf, nextOf};
 ghost use Rattle.search.specs.inner.Links.{linked, topOf};
 ghost use Rattle.search.specs.inner.Newest.{betterNode, betterChild, bestDown, FairNode, Late, Linked};
 ghost use Rattle.search.specs.inner.Ready.{Ready, Logged, Rating, chosenOf};
-use super::links::LINKED;
 use super::links::last_child;
 use super::links::older;
+use super::links::top_of;
 use super::options::SearchOptions;
 use super::options::ln_at;
 use craft_context::CraftContext;
@@ -73,9 +73,10 @@ fn best_late(nodes: &[Node], count: usize, parent: usize, weights: Weights) -> B
     requires { ⌜ Late (now nodes) count parent weights ⌝ }
     ensures { λ r. ⌜ (bestDown weights (now (nodes .entry)) parent (topOf count) r ≡ bestDown weights (now (nodes .entry)) parent count noBest) × Holds weights r ⌝ }
 {
+    let top = top_of(count);
     let mut best = Best::none();
     let mut k = count;
-    while LINKED < k {
+    while top < k {
         k -= 1;
         let n = node_at(nodes, k);
         best = better_child(best, k, n, parent, weights);

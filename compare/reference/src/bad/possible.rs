@@ -46,8 +46,8 @@ pub const OF_TEXTS: &[Entry] = &[
     ("crafty_macro_time", &[3, 13]),
 ];
 pub const OF_TREES: &[Entry] = &[
-    ("crafty_tree_new", &[6]),
-    ("crafty_tree_insert", &[3, 6, 7, 8]),
+    ("crafty_tree_new", &[1, 6]),
+    ("crafty_tree_insert", &[1, 3, 6, 7, 8]),
     ("crafty_tree_children", &[6, 7, 8]),
     ("crafty_tree_backpropagate", &[7, 8, 9, 10, 11]),
     ("crafty_tree_solution", &[6, 7]),

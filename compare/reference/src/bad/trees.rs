@@ -31,6 +31,7 @@ fn call(random: &mut Random, function: Function) -> Call {
         target: target(random, &records, count, node),
         action: numbers::action(random),
         score: any_float(random),
+        unused: numbers::any(random),
         room: random.place(records.len() + 2),
         ..Call::new(function, &records, count)
     }

@@ -41,7 +41,7 @@ fn unchanged(call: &Call) -> Answer {
 fn told(call: &Call) -> Result<Answer, Refusal> {
     check(call)?;
     match call.function {
-        Function::New => in_records(call, 1, || Tree::new().records()),
+        Function::New => in_records(call, 1, || Tree::new(call.unused).records()),
         Function::Insert => inserted(call),
         Function::Children => {
             let children = tree(call).children(call.node as usize);
@@ -63,7 +63,7 @@ fn tree(call: &Call) -> Tree {
 
 fn inserted(call: &Call) -> Result<Answer, Refusal> {
     let mut tree = tree(call);
-    let number = tree.insert(call.node as usize, call.action);
+    let number = tree.insert(call.node as usize, call.action, call.unused);
     let told = in_records(call, number + 1, || tree.records())?;
     Ok(Answer { value: number as u64, ..told })
 }
@@ -72,7 +72,7 @@ fn backpropagated(call: &Call) -> Answer {
     let mut tree = tree(call);
     tree.backpropagate(call.node as usize, call.target as usize, call.score);
     let records = tree.records().into_iter().map(|record| positive(call, record));
-    Answer { records: with_unused(call, records.collect()), ..unchanged(call) }
+    Answer { records: with_spare(call, records.collect()), ..unchanged(call) }
 }
 
 /// The first so many records are written.
@@ -84,12 +84,12 @@ fn in_records(
     if needed > call.records.len() {
         return Err(Refusal::RoomTooShort { needed });
     }
-    let records = with_unused(call, write());
+    let records = with_spare(call, write());
     Ok(Answer { value: needed as u64, records, ..unchanged(call) })
 }
 
 /// The records behind those that are used stay as they were.
-fn with_unused(call: &Call, mut used: Vec<Record>) -> Vec<Record> {
+fn with_spare(call: &Call, mut used: Vec<Record>) -> Vec<Record> {
     used.extend(&call.records[used.len()..]);
     used
 }

@@ -2,6 +2,7 @@
 
 use super::record::{Record, NO_ACTION};
 use crate::states::bench::bench;
+use crate::states::fields::set;
 use crafty::{Action, CraftContext, Simulator};
 use std::sync::LazyLock;
 
@@ -10,16 +11,16 @@ static CONTEXT: LazyLock<CraftContext> = LazyLock::new(bench);
 pub struct Tree(Simulator<'static>);
 
 impl Tree {
-    /// Of a root alone, as the Rust starts one.
-    pub fn new() -> Tree {
-        Tree(Simulator::of_root(&CONTEXT))
+    /// Of a root alone, as the Rust starts one. The unused moves of a node are its state's `available_moves`.
+    pub fn new(unused: u32) -> Tree {
+        Tree(Simulator::of_root(&CONTEXT, set(unused)))
     }
 
     pub fn of(records: &[Record]) -> Tree {
-        let mut tree = Tree::new();
+        let mut tree = Tree::new(records[0].unused);
         for (node, record) in records.iter().enumerate() {
             if node > 0 {
-                tree.insert(record.parent as usize, record.action);
+                tree.insert(record.parent as usize, record.action, record.unused);
             }
             let state = &mut tree.0.tree_mut().get_mut(node).state;
             state.visits = record.visits;
@@ -37,12 +38,13 @@ impl Tree {
             visits: node.state.visits,
             score_sum: node.state.score_sum,
             max_score: node.state.max_score,
+            unused: node.state.available_moves.bits(),
         };
         nodes.map(record).collect()
     }
 
-    pub fn insert(&mut self, parent: usize, action: u8) -> usize {
-        self.0.insert_action(parent, Action::ACTIONS[usize::from(action)])
+    pub fn insert(&mut self, parent: usize, action: u8, unused: u32) -> usize {
+        self.0.insert_action(parent, Action::ACTIONS[usize::from(action)], set(unused))
     }
 
     pub fn children(&mut self, node: usize) -> Vec<usize> {

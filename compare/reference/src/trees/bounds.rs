@@ -7,6 +7,7 @@ use super::generate::Case;
 use super::record::{Record, NO_ACTION};
 use super::sequence::known_action;
 use super::ways::TABLE;
+use crate::generate::known_set;
 use crate::random::Random;
 
 /// The parent of the record of a number.
@@ -50,16 +51,17 @@ fn cases_of(shape: Shape, count: u64) -> Vec<Case> {
 /// A sound tree whose last record is as good as any, and behind it one that would be the best child of the root.
 fn tree(shape: Shape, count: u64) -> Vec<Record> {
     let random = &mut Random::numbered(SEED, count);
-    let mut records = vec![Record::new(0, NO_ACTION)];
+    let mut records = vec![Record::new(0, NO_ACTION, known_set(random))];
     records.extend((1..count).map(|number| {
         let visits = random.between(0, VISITS) as f32;
         let score_sum = floats::score_sum(random, visits);
         let max_score = random.any(&MAXIMA);
-        let placed = Record::new(shape(random, number), known_action(random));
+        let parent = shape(random, number);
+        let placed = Record::new(parent, known_action(random), known_set(random));
         Record { visits, score_sum, max_score, ..placed }
     }));
     records[count as usize - 1].max_score = GREATEST;
-    records.push(Record { max_score: 1.0, ..Record::new(0, 0) });
+    records.push(Record { max_score: 1.0, ..Record::new(0, 0, 0) });
     records
 }
 

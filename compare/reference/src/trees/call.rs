@@ -20,7 +20,7 @@ pub const FUNCTIONS: [Function; 5] = [
 ];
 /// Its place among the functions of bindings/calls.h.
 const FIRST: u64 = 6;
-/// The fifteen numbers that a replay has there, of which five serve.
+/// The fifteen numbers that a replay has there, of which six serve.
 const FIELDS: usize = 15;
 
 impl Function {
@@ -54,13 +54,23 @@ pub struct Call {
     pub target: u64,
     pub action: u8,
     pub score: f32,
+    pub unused: u32,
     pub room: usize,
 }
 
 impl Call {
     pub fn new(function: Function, records: &[Record], count: u64) -> Call {
-        let records = records.to_vec();
-        Call { function, records, count, node: 0, target: 0, action: 0, score: 0.0, room: 0 }
+        Call {
+            function,
+            records: records.to_vec(),
+            count,
+            node: 0,
+            target: 0,
+            action: 0,
+            score: 0.0,
+            unused: 0,
+            room: 0,
+        }
     }
 
     /// The room before the call: no two neighbours are the same, so that a shifted copy is seen too.
@@ -77,6 +87,7 @@ impl Call {
         fields[2] = self.target;
         fields[3] = u64::from(self.action);
         fields[4] = u64::from(self.score.to_bits());
+        fields[5] = u64::from(self.unused);
         let mut head = vec![FIRST + self.function as u64, 0];
         head.extend(fields);
         head.extend([records.len() as u64, room.len() as u64]);

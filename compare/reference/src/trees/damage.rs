@@ -8,7 +8,7 @@ use super::sound::{LAST_ACTION, VISITS_MOST};
 /// What is done to the record of a number.
 type Damage = (&'static str, fn(u64, &mut Record));
 
-pub const DAMAGES: [Damage; 39] = [
+pub const DAMAGES: [Damage; 41] = [
     ("parent its own number", |number, record| record.parent = number.max(1)),
     ("parent one above", |number, record| record.parent = number + 1),
     ("parent 2^32 above", |_, record| record.parent |= 1 << 32),
@@ -54,6 +54,8 @@ pub const DAMAGES: [Damage; 39] = [
     ("max_score NaN", |_, record| record.max_score = NANS[0]),
     ("max_score NaN below 0", |_, record| record.max_score = NANS[1]),
     ("max_score signalling NaN", |_, record| record.max_score = NANS[2]),
+    ("unused bit 31", |_, record| record.unused |= 1 << 31),
+    ("unused all bits", |_, record| record.unused = u32::MAX),
 ];
 
 /// With a sum that would suit them.

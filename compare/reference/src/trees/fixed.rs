@@ -8,37 +8,45 @@ use super::floats::{ABOVE_ONE, BELOW_ONE, LEAST, NANS, NO_SCORES, SCORES};
 use super::generate::Case;
 use super::record::{Record, NO_ACTION};
 use super::sound::{LAST_ACTION, VISITS_MOST};
+use crate::fixed::EDGE_SETS;
 
 const USED: u64 = 5;
 /// A node, one above it, and one that is beside it.
 const START: u64 = 4;
 const ABOVE: u64 = 2;
 const BESIDE: u64 = 1;
+/// Some moves, and not all.
+const UNUSED: u32 = 0x5A5A_1234;
 
 pub fn cases() -> impl Iterator<Item = Case> {
-    let calls = [starts(), insertions(), lookups(), paths(), visits(), scores(), edges(), shapes()];
-    let calls = calls.into_iter().flatten().map(Case::new);
+    let growing = [starts(), insertions()];
+    let others = [lookups(), paths(), visits(), scores(), edges(), sets(), shapes()];
+    let calls = growing.into_iter().chain(others).flatten().map(Case::new);
     calls.chain(damaged()).chain([equals()]).chain(bounds::cases())
 }
 
-/// Of five records used 1 and 2 are below the root, 3 below 2, 4 below 3; two more hold what no tree may.
+/// Of five records used 1 and 2 are below the root, 3 below 2, 4 below 3; two to spare hold what no tree may.
 fn records() -> Vec<Record> {
-    let mut records = vec![Record::new(0, NO_ACTION)];
-    records.extend(
-        [(0, 3), (0, 7), (2, 30), (3, 0)].map(|(parent, action)| Record::new(parent, action)),
-    );
-    let unused = Record {
+    let spare = Record {
         parent: u64::MAX,
         action: 255,
         visits: NANS[2],
         score_sum: NANS[1],
         max_score: NANS[3],
+        unused: u32::MAX,
     };
-    records.extend([unused, Record { visits: -0.5, max_score: -0.0, ..unused }]);
-    records
+    vec![
+        Record::new(0, NO_ACTION, 0x7FFF_FFFF),
+        Record::new(0, 3, 0),
+        Record::new(0, 7, 1 << 30),
+        Record::new(2, 30, 1),
+        Record::new(3, 0, UNUSED),
+        spare,
+        Record { visits: -0.5, max_score: -0.0, unused: 1 << 31, ..spare },
+    ]
 }
 
-/// As it is, with visits that are full at the start, and with a record wrong as well; each also with no record unused.
+/// As it is, with visits that are full at the start, and with a record wrong as well; each also with none to spare.
 fn trees() -> Vec<Vec<Record>> {
     let mut full = records();
     full[START as usize].visits = VISITS_MOST;
@@ -48,9 +56,14 @@ fn trees() -> Vec<Vec<Record>> {
     trees.into_iter().flat_map(|tree| [tree[..USED as usize].to_vec(), tree]).collect()
 }
 
+/// Every edge of a set, over any number of records.
 fn starts() -> Vec<Call> {
-    let lengths = 0..=records().len();
-    lengths.map(|length| Call::new(Function::New, &records()[..length], 0)).collect()
+    let mut calls = Vec::new();
+    for length in 0..=records().len() {
+        let start = Call::new(Function::New, &records()[..length], 0);
+        calls.extend(EDGE_SETS.map(|unused| Call { unused, ..start.clone() }));
+    }
+    calls
 }
 
 fn insertions() -> Vec<Call> {
@@ -58,11 +71,13 @@ fn insertions() -> Vec<Call> {
     for tree in trees() {
         let insertion = Call::new(Function::Insert, &tree, USED);
         for action in 0..=255 {
-            calls.push(Call { action, node: START, ..insertion.clone() });
+            calls.push(Call { action, node: START, unused: UNUSED, ..insertion.clone() });
         }
         for node in [0, BESIDE, START, USED, USED + 1, 1 << 32, u64::MAX] {
-            calls.push(Call { node, action: LAST_ACTION, ..insertion.clone() });
-            calls.push(Call { node, action: LAST_ACTION + 1, ..insertion.clone() });
+            for action in [LAST_ACTION, LAST_ACTION + 1] {
+                let insertion = Call { node, action, ..insertion.clone() };
+                calls.extend(EDGE_SETS.map(|unused| Call { unused, ..insertion.clone() }));
+            }
         }
     }
     calls
@@ -157,21 +172,35 @@ fn edges() -> Vec<Call> {
     calls
 }
 
+/// Every edge of a set, in each record in turn.
+fn sets() -> Vec<Call> {
+    let mut calls = Vec::new();
+    for number in 0..USED as usize {
+        for unused in EDGE_SETS {
+            let mut tree = records();
+            tree[number].unused = unused;
+            calls.extend(FUNCTIONS.map(|function| asked(function, &tree, USED)));
+        }
+    }
+    calls
+}
+
 /// Nothing but the tree is wrong.
 fn asked(function: Function, tree: &[Record], count: u64) -> Call {
     let room = tree.len();
-    Call { node: START, target: ABOVE, score: 0.25, room, ..Call::new(function, tree, count) }
+    let call = Call::new(function, tree, count);
+    Call { node: START, target: ABOVE, score: 0.25, unused: UNUSED, room, ..call }
 }
 
 /// A tree that is one path and one that is one node's children, in rooms around what they need.
 fn shapes() -> Vec<Call> {
     let below = 1000;
-    let actions = |number: u64| (number % 31) as u8;
-    let root = || vec![Record::new(0, NO_ACTION)];
+    let record = |parent: u64, number: u64| Record::new(parent, (number % 31) as u8, UNUSED);
+    let root = || vec![Record::new(0, NO_ACTION, UNUSED)];
     let mut long = root();
-    long.extend((1..=below).map(|number| Record::new(number - 1, actions(number))));
+    long.extend((1..=below).map(|number| record(number - 1, number)));
     let mut wide = root();
-    wide.extend((1..=below).map(|number| Record::new(0, actions(number))));
+    wide.extend((1..=below).map(|number| record(0, number)));
     let mut calls = Vec::new();
     for tree in [long, wide] {
         let count = tree.len() as u64;

@@ -2,7 +2,7 @@
 
 use std::fmt;
 
-pub const WIDTH: usize = 24;
+pub const WIDTH: usize = 32;
 /// The action of record 0.
 pub const NO_ACTION: u8 = 31;
 
@@ -13,34 +13,37 @@ pub struct Record {
     pub visits: f32,
     pub score_sum: f32,
     pub max_score: f32,
+    /// The moves not drawn from it yet, bit n for action n.
+    pub unused: u32,
 }
 
 impl Record {
-    pub fn new(parent: u64, action: u8) -> Record {
-        Record { parent, action, visits: 0.0, score_sum: 0.0, max_score: 0.0 }
+    pub fn new(parent: u64, action: u8, unused: u32) -> Record {
+        Record { parent, action, visits: 0.0, score_sum: 0.0, max_score: 0.0, unused }
     }
 
-    /// Three bytes behind the action are unused.
+    /// Three bytes behind the action and four at the end are padding.
     pub fn bytes(&self) -> [u8; WIDTH] {
         let mut bytes = [0; WIDTH];
         bytes[..8].copy_from_slice(&self.parent.to_le_bytes());
         bytes[8] = self.action;
         bytes[12..16].copy_from_slice(&self.visits.to_bits().to_le_bytes());
         bytes[16..20].copy_from_slice(&self.score_sum.to_bits().to_le_bytes());
-        bytes[20..].copy_from_slice(&self.max_score.to_bits().to_le_bytes());
+        bytes[20..24].copy_from_slice(&self.max_score.to_bits().to_le_bytes());
+        bytes[24..28].copy_from_slice(&self.unused.to_le_bytes());
         bytes
     }
 
     pub fn read(bytes: &[u8]) -> Record {
-        let float = |at: usize| {
-            f32::from_bits(u32::from_le_bytes(bytes[at..at + 4].try_into().expect("four bytes")))
-        };
+        let bits =
+            |at: usize| u32::from_le_bytes(bytes[at..at + 4].try_into().expect("four bytes"));
         Record {
             parent: u64::from_le_bytes(bytes[..8].try_into().expect("eight bytes")),
             action: bytes[8],
-            visits: float(12),
-            score_sum: float(16),
-            max_score: float(20),
+            visits: f32::from_bits(bits(12)),
+            score_sum: f32::from_bits(bits(16)),
+            max_score: f32::from_bits(bits(20)),
+            unused: bits(24),
         }
     }
 }
@@ -58,6 +61,6 @@ impl fmt::Debug for Record {
         for float in [self.visits, self.score_sum, self.max_score] {
             write!(out, ", {float:?} {:08X}", float.to_bits())?;
         }
-        write!(out, ")")
+        write!(out, ", unused {:08X})", self.unused)
     }
 }

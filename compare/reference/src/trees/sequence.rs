@@ -7,6 +7,7 @@ use super::floats;
 use super::generate::Case;
 use super::record::{Record, NO_ACTION};
 use super::sound::{upward, LAST_ACTION};
+use crate::generate::{known_set, set};
 use crate::random::Random;
 
 /// So many nodes are asked for their children at a time.
@@ -29,7 +30,9 @@ impl Sequence {
         let records: Vec<Record> = (0..length).map(|_| any_record(random)).collect();
         let mut sequence = Sequence { records, count: 0, cases: Vec::new() };
         if length == 0 || random.one_in(2) {
-            sequence.ask(random, Call::new(Function::New, &sequence.records, 0));
+            let call = Call::new(Function::New, &sequence.records, 0);
+            let unused = known_set(random);
+            sequence.ask(random, Call { unused, ..call });
         } else {
             sequence.count = made_up(random, &mut sequence.records);
         }
@@ -66,7 +69,8 @@ impl Sequence {
         let call = self.call(Function::Solution);
         self.cases.push(Case::new(in_room(random, call)));
         let length = random.place(self.records.len() + 1);
-        self.cases.push(Case::new(Call::new(Function::New, &self.records[..length], self.count)));
+        let call = Call::new(Function::New, &self.records[..length], self.count);
+        self.cases.push(Case::new(Call { unused: set(random), ..call }));
     }
 
     fn call(&self, function: Function) -> Call {
@@ -86,7 +90,8 @@ impl Sequence {
             0 => random.any(&[LAST_ACTION, 31, 32, 128, 255]),
             _ => known_action(random),
         };
-        Call { node: self.node(random), action, ..self.call(Function::Insert) }
+        let unused = set(random);
+        Call { node: self.node(random), action, unused, ..self.call(Function::Insert) }
     }
 
     /// Mostly to a node above the start.
@@ -135,7 +140,8 @@ pub fn made_up(random: &mut Random, records: &mut [Record]) -> u64 {
         let visits = floats::visits(random);
         let score_sum = floats::score_sum(random, visits);
         let max_score = floats::max_score(random);
-        records[number as usize] = Record { parent, action, visits, score_sum, max_score };
+        let placed = Record::new(parent, action, known_set(random));
+        records[number as usize] = Record { visits, score_sum, max_score, ..placed };
     }
     count
 }
@@ -168,7 +174,7 @@ fn number_below(random: &mut Random, end: u64) -> u64 {
     }
 }
 
-/// Anything, as a record holds that is not used.
+/// Anything, as a spare record holds.
 pub fn any_record(random: &mut Random) -> Record {
     let bits = u64::from(random.bits());
     Record {
@@ -177,5 +183,6 @@ pub fn any_record(random: &mut Random) -> Record {
         visits: floats::any(random),
         score_sum: floats::any(random),
         max_score: floats::any(random),
+        unused: random.bits(),
     }
 }

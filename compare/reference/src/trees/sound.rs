@@ -3,6 +3,7 @@
 use super::call::{Call, Function};
 use super::record::{Record, NO_ACTION};
 use crate::refusal::Refusal;
+use crate::sets::set;
 
 pub const LAST_ACTION: u8 = 30;
 pub const VISITS_MOST: f32 = 16_777_216.0;
@@ -18,17 +19,21 @@ fn is_sound_at(number: u64, record: &Record) -> bool {
         0 => record.parent == 0 && record.action == NO_ACTION,
         _ => record.parent < number && record.action <= LAST_ACTION,
     };
-    let Record { visits, score_sum, max_score, .. } = *record;
+    let Record { visits, score_sum, max_score, unused, .. } = *record;
     is_placed
         && visits.trunc() == visits
         && (0.0..=VISITS_MOST).contains(&visits)
         && score_sum.abs() <= visits
         && (0.0..=1.0).contains(&max_score)
         && max_score.is_sign_positive()
+        && set(unused).is_ok()
 }
 
 /// In the order of the numbers; the room comes after all of them.
 pub fn check(call: &Call) -> Result<(), Refusal> {
+    if matches!(call.function, Function::New | Function::Insert) {
+        set(call.unused)?;
+    }
     if call.function == Function::New {
         return Ok(());
     }

@@ -12,10 +12,10 @@ use native.Mathlib.Omega.{arith}
 use lib.Dec.{eqb}
 use lib.ListN.{length, set, length-set}
 use lib.Seq.{getD-set-same, getD-set-other}
-use borrow.Author.Tests.{eq-eqb, ne-eqb, eqb-true, eqb-false, lt-ltb, ltb-true, not-true}
+use borrow.Author.Tests.{eq-eqb, ne-eqb, eqb-true, eqb-false, lt-ltb}
 use Rattle.laws.specs.Bits.{has}
 use Rattle.laws.specs.laws.Bits.{has-without}
-use Rattle.laws.specs.laws.Tests.{true-false, both, either, and-true, or-false}
+use Rattle.laws.specs.laws.Tests.{true-false, either, and-true, or-false}
 use Rattle.action.specs.Known.{actions}
 use Rattle.action_set.specs.Sets.{SetIn, withoutOf}
 use Rattle.action_set.specs.laws.Sets.{set-inside}
@@ -35,7 +35,8 @@ use Rattle.search.specs.Iterate.{drawnFrom, belowOf}
 use Rattle.search.specs.inner.Grown.{movesIn, isTaken, Growing}
 use Rattle.search.specs.laws.States.{Alike, state-below, state-alike}
 use Rattle.search.specs.laws.Taken.{taken-by, taken-none, taken-alike, moves-alike}
-use Rattle.search.specs.laws.Moves.{member-known, moves-set}
+use Rattle.search.specs.laws.Moves.{moves-set}
+use Rattle.search.specs.laws.Legal.{unused-known, unused-move, moves-apart}
 
 -- ---- what each record is
 
@@ -115,15 +116,8 @@ module _ (c : CraftContext) (nodes : List Node) (count k action : ℕ) (growing 
   falls : Falls nodes count
   falls = tree-falls (growing .tree)
 
-  unused-set : SetIn (nodeAt nodes k .unused)
-  unused-set = ltb-true _ _ (sound-parts (growing .tree .each k inside) .moves)
-
-  action-known : action < actions
-  action-known = member-known (nodeAt nodes k .unused) action unused-set is
-
-  -- what was unused is a move, and no child's
-  apart : (has (movesIn c nodes k) action ≡ true) × (not (isTaken count nodes k action) ≡ true)
-  apart = both (has (movesIn c nodes k) action) (not (isTaken count nodes k action)) (sym (growing .left k inside action action-known) ∙ is)
+  known : action < actions
+  known = unused-known c nodes count growing k inside action is
 
   drawn-tree : SoundTree (drawnAt nodes k action) count
   drawn-tree = record { some = growing .tree .some; room = rw length-set (growing .tree .room); each = λ j h. ⊎-elim (here j) (there j h) (either (eqb j k)) }
@@ -141,7 +135,7 @@ module _ (c : CraftContext) (nodes : List Node) (count k action : ℕ) (growing 
   pub below-tree : SoundTree after (suc count)
   below-tree =
       rw add-one at
-      (inserted-sound (drawnAt nodes k action) count k action moves drawn-tree (rw length-set room) inside (lt-ltb action actions action-known)
+      (inserted-sound (drawnAt nodes k action) count k action moves drawn-tree (rw length-set room) inside (lt-ltb action actions known)
       (lt-ltb _ _ (moves-set c (executeOf c (stateAt c nodes k) action) strict)))
 
   alike : Alike nodes after count
@@ -168,7 +162,7 @@ module _ (c : CraftContext) (nodes : List Node) (count k action : ℕ) (growing 
   legal-more j some h = ⊎-elim here before (last-or-below j count h)
     where
       here : j ≡ count → has (movesIn c after (nodeAt after j .parent)) (nodeAt after j .action) ≡ true
-      here e = rw (e, below-new nodes count k action moves inside room, moves-before k inside) (apart .0)
+      here e = rw (e, below-new nodes count k action moves inside room, moves-before k inside) (unused-move c nodes count growing k inside action is)
 
       before : j < count → has (movesIn c after (nodeAt after j .parent)) (nodeAt after j .action) ≡ true
       before l =
@@ -219,7 +213,7 @@ module _ (c : CraftContext) (nodes : List Node) (count k action : ℕ) (growing 
   -- no child of record k has the action yet
   no-second : (j : ℕ) → 0 < j → j < count → nodeAt nodes j .parent ≡ k → nodeAt nodes j .action ≡ action → ⊥
   no-second j some h p q =
-      true-false (sym (rw q at (taken-by count nodes k j some h p)) ∙ not-true (isTaken count nodes k action) (apart .1))
+      true-false (sym (rw q at (taken-by count nodes k j some h p)) ∙ rw is at (moves-apart c nodes count growing k inside action known))
 
   once-more : (i j : ℕ) → 0 < i → i < suc count → 0 < j → j < suc count → nodeAt after i .parent ≡ nodeAt after j .parent
       → nodeAt after i .action ≡ nodeAt after j .action → i ≡ j

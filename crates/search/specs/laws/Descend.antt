@@ -1,5 +1,5 @@
--- The way down of `select`: the next record is a child, so it is above its parent and used; counted steps are enough, it ends where there is no next record, and
--- the state goes along.
+-- The way down of `select`: the next record is a child, so it is above its parent and used; counted steps are enough, it ends where there is no next record,
+-- and the state goes along.
 -- Assumes nothing.
 use mathlib.Core.Path.{_≡_, refl, sym, ap, _∙_}
 use mathlib.Core.Bool.{Bool, true, false, cond}
@@ -9,6 +9,7 @@ use native.Mathlib.Omega.{arith}
 use lib.Dec.{eqb, ltb}
 use lib.Ieee.{Float}
 use borrow.Author.Tests.{ltb-true}
+use Rattle.laws.specs.Lists.{elem}
 use Rattle.laws.specs.laws.Tests.{both}
 use Rattle.action.specs.Bounds.{RowBounds}
 use Rattle.action.specs.Table.{attributesOf}
@@ -31,14 +32,16 @@ use Rattle.search.specs.inner.Grown.{Growing}
 use Rattle.search.specs.laws.States.{state-below}
 use Rattle.search.specs.laws.Legal.{grown-playable}
 
+pub child-listed : (nodes : List Node) (count k j : ℕ) → elem (childrenOf count nodes k) j ≡ true → (j < count) × (isChild j (nodeAt nodes j) k ≡ true)
+child-listed nodes count k j e =
+    let is = both (ltb j count) (isChild j (nodeAt nodes j) k) (sym (children-each nodes k count j) ∙ e) in
+    (ltb-true j count (is .0), is .1)
+
 -- the best by any rate is a child
 pub picked-child : (rate : ℕ → Float) (nodes : List Node) (count k : ℕ) → 0 < bestBy rate count nodes k
     → (bestBy rate count nodes k < count) × (isChild (bestBy rate count nodes k) (nodeAt nodes (bestBy rate count nodes k)) k ≡ true)
 picked-child rate nodes count k some =
-    let b : ℕ = bestBy rate count nodes k in
-    let found = in-found rate (childrenOf count nodes k) (childrenOf count nodes k) some in
-    let is = both (ltb b count) (isChild b (nodeAt nodes b) k) (sym (children-each nodes k count b) ∙ found .0) in
-    (ltb-true b count (is .0), is .1)
+    child-listed nodes count k (bestBy rate count nodes k) (in-found rate (childrenOf count nodes k) (childrenOf count nodes k) some .0)
 
 module _ (o : SearchOptions) (logs : List Float) (nodes : List Node) (count : ℕ) where
   abbrev next : ℕ → ℕ

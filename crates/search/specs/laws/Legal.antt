@@ -1,16 +1,16 @@
--- What the records of a search say of their states: each is one that a craft came to, each record's action is legal at its parent, and its unused moves are
--- moves of its state, plain ones too.
+-- What the records of a search say of their states: each is one that a craft came to, each record's action is legal at its parent, and its unused moves and its
+-- children's actions are apart and together its state's moves, which are plain ones too.
 -- Assumes nothing.
-use mathlib.Core.Path.{_≡_, sym, _∙_}
-use mathlib.Core.Bool.{Bool, true, false, not, cond}
+use mathlib.Core.Path.{_≡_, refl, sym, _∙_}
+use mathlib.Core.Bool.{Bool, true, false, not, cond, _&&_, _||_}
 use mathlib.Core.List.{List}
 use Prim.Native.Nat.{ℕ, zero, suc, _≤_, _<_}
 use native.Mathlib.Nat.{le-refl}
 use native.Mathlib.Omega.{arith}
 use lib.Dec.{eqb}
-use borrow.Author.Tests.{ltb-true}
+use borrow.Author.Tests.{ltb-true, eqb-true, eqb-false, not-true}
 use Rattle.laws.specs.Bits.{has}
-use Rattle.laws.specs.laws.Tests.{both}
+use Rattle.laws.specs.laws.Tests.{true-false, both}
 use Rattle.action.specs.Bounds.{RowBounds}
 use Rattle.action.specs.Known.{actions}
 use Rattle.action.specs.Table.{attributesOf}
@@ -26,7 +26,8 @@ use Rattle.moves.specs.Moves.{movesOf}
 use Rattle.moves.specs.laws.Moves.{legal-known, legal-playable, strict-part}
 use Rattle.score.specs.laws.Bounds.{Timely, start-timely, legal-timely}
 use Rattle.tree.specs.declared.node.Node.{Node}
-use Rattle.tree.specs.Tree.{nodeAt}
+use Rattle.tree.specs.Tree.{nodeAt, isChild}
+use Rattle.tree.specs.laws.Best.{child-parent}
 use Rattle.tree.specs.laws.Node.{sound-parts}
 use Rattle.tree.specs.laws.Tree.{tree-falls}
 use Rattle.search.specs.Select.{stateAt}
@@ -58,6 +59,43 @@ module _ (c : CraftContext) (nodes : List Node) (count : ℕ) (growing : Growing
 
       pub unused-plain : has (movesOf c (stateAt c nodes k) plain) n ≡ true
       unused-plain = plain-part c (stateAt c nodes k) k n unused-move
+
+  -- ---- unused moves and children's actions are apart, and together the moves
+
+  -- a child's action is a move
+  taken-in : (t k n : ℕ) → t ≤ count → isTaken t nodes k n ≡ true → has (movesIn c nodes k) n ≡ true
+  unfolding isTaken
+  taken-in zero k n h e = absurd (true-false (sym e))
+  taken-in (suc t) k n h e = go (isTaken t nodes k n) refl (taken-in t k n (omega arith)) e
+    where
+      here : isChild t (nodeAt nodes t) k && eqb (nodeAt nodes t .action) n ≡ true → has (movesIn c nodes k) n ≡ true
+      here e =
+          let is = both (isChild t (nodeAt nodes t) k) (eqb (nodeAt nodes t .action) n) e in
+          let some : t ≡ 0 → ⊥ = eqb-false t 0 (not-true (eqb t 0) (both (not (eqb t 0)) (eqb (nodeAt nodes t .parent) k) (is .0) .0)) in
+          rw (child-parent t (nodeAt nodes t) k (is .0), eqb-true (nodeAt nodes t .action) n (is .1)) at (growing .legal t (omega arith) (omega arith))
+
+      go : (b : Bool) → isTaken t nodes k n ≡ b → (b ≡ true → has (movesIn c nodes k) n ≡ true)
+          → b || (isChild t (nodeAt nodes t) k && eqb (nodeAt nodes t .action) n) ≡ true → has (movesIn c nodes k) n ≡ true
+      go true q rest e = rest refl
+      go false q rest e = here e
+
+  module _ (k : ℕ) (inside : k < count) (n : ℕ) (known : n < actions) where
+    pub moves-apart : has (nodeAt nodes k .unused) n && isTaken count nodes k n ≡ false
+    moves-apart = rw (growing .left k inside n known) (go (has (movesIn c nodes k) n) (isTaken count nodes k n))
+      where
+        go : (m t : Bool) → (m && not t) && t ≡ false
+        go true true = refl
+        go true false = refl
+        go false t = refl
+
+    pub moves-together : has (nodeAt nodes k .unused) n || isTaken count nodes k n ≡ has (movesIn c nodes k) n
+    moves-together = rw (growing .left k inside n known) (go (has (movesIn c nodes k) n) (isTaken count nodes k n) (taken-in count k n (le-refl count)))
+      where
+        go : (m t : Bool) → (t ≡ true → m ≡ true) → (m && not t) || t ≡ m
+        go true true f = refl
+        go true false f = refl
+        go false true f = sym (f refl)
+        go false false f = refl
 
   -- ---- the states
 

@@ -109,7 +109,8 @@ module _ (x : Float) (is : isCount x ≡ true) where
         go false e = refl
         go true e =
             let value = of-nat-value binary32 n (omega arith) in
-            let over : T (le visitsMost (float n)) = le-through visitsMost x (float n) most-finite count-finite (value-finite (float n) n value) (holds e) most in
+            let over : T (le visitsMost (float n)) =
+            le-through visitsMost x (float n) most-finite count-finite (value-finite (float n) n value) (holds e) most in
             let bound : toUnsigned 64 visitsMost ≤ n = truncated-small 64 visitsMost n (zero-small visitsMost (float n) n value zero-most over) in
             absurd (omega (arith, most-back))
 

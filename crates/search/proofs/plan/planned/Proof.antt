@@ -14,7 +14,7 @@ use Rattle.score.specs.declared.result.CraftResult.{CraftResult}
 use Rattle.rollout.specs.declared.rollout.Rolled.{Rolled}
 use Rattle.rollout.specs.declared.rollout.Rolled.the-variants.{Ended, Refused}
 use Rattle.rollout.specs.Rollout.{rolledFrom}
-use Rattle.rollout.specs.inner.Within.{Within}
+use Rattle.rollout.specs.inner.Ends.{EndsWithin}
 use Rattle.rollout.specs.laws.RolledSampled.{rolled}
 use Rattle.search.specs.Iterate.{isWorth, storedOf}
 use Rattle.search.specs.inner.Ready.{refusedPlan, planRoom, planBy, planOf}
@@ -33,8 +33,8 @@ module _ (c : CraftContext) (threshold : Float) (s : CraftState) (unused : ℕ) 
     end-least : at ≤ end
     end-least = rolled c s unused at (drop at draws) result end (sym e ∙ q) .least
 
-end-most : (draws : ℕ) {r : Rolled} → Within draws r → {result : CraftResult} {end : ℕ} → r ≡ Ended result end → end ≤ draws
-end-most draws w q = subst (Within draws) q w .1
+end-most : (draws : ℕ) {r : Rolled} → EndsWithin draws r → {result : CraftResult} {end : ℕ} → r ≡ Ended result end → end ≤ draws
+end-most draws w q = subst (EndsWithin draws) q w .1
 
 pub planned-spec : {M : Type 1} → statement M
 planned-spec =

@@ -1,4 +1,4 @@
--- `moves::at_once::strict_at_once` meets its contract.
+-- `moves::single::strict_at_once` meets its contract.
 -- Assumes nothing.
 use mathlib.Core.Path.{_≡_, refl, sym, _∙_}
 use Prim.Native.Nat.{ℕ}
@@ -14,8 +14,8 @@ use Rattle.moves.specs.Moves.{movesOf}
 use Rattle.moves.specs.inner.Sets.{strictBeyond}
 use Rattle.moves.specs.laws.Moves.{moves-ended, moves-on}
 use Rattle.moves.specs.laws.AtOnce.{eitherOf, eye-leaves, beyond-leaves, strict-at-once}
-use Rattle.moves.proofs.at_once.strict_at_once.Statement.{statement}
-use Rattle.moves.proofs.at_once.strict_at_once.Tie as tie
+use Rattle.moves.proofs.single.strict_at_once.Statement.{statement}
+use Rattle.moves.proofs.single.strict_at_once.Tie as tie
 
 -- what either mode leaves
 left : (c : tie.After-own-moves)

@@ -1,4 +1,4 @@
--- `score::result::judge_single` meets its contract: each way out answers what its test gives, where all tests before it failed.
+-- `score::single::judge_single` meets its contract: each way out answers what its test gives, where all tests before it failed.
 -- Assumes nothing.
 use mathlib.Core.Path.{_≡_, sym, ap, _∙_}
 use lib.IntN.{ℤ, pos}
@@ -10,8 +10,8 @@ use borrow.Author.Tests.{le-leb, lt-leb, eq-eqb, ne-eqb}
 use Rattle.craft_state.specs.laws.Inside.{durability-read}
 use Rattle.score.specs.Result.{judgedBy}
 use Rattle.score.specs.declared.result.CraftResult.the-variants.{Finished}
-use Rattle.score.proofs.result.judge_single.Statement.{statement}
-use Rattle.score.proofs.result.judge_single.Tie as tie
+use Rattle.score.proofs.single.judge_single.Statement.{statement}
+use Rattle.score.proofs.single.judge_single.Tie as tie
 
 -- the code reads durability back from its byte
 as-read : (s : tie.Start)

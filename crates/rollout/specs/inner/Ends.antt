@@ -5,6 +5,6 @@ use Rattle.score.specs.Result.{ScoreIsNumber}
 use Rattle.rollout.specs.declared.rollout.Rolled.{Rolled}
 use Rattle.rollout.specs.declared.rollout.Rolled.the-variants as R
 
-abbrev pub Within : ℕ → Rolled → Type 0
-Within draws (R.Ended result next) = ScoreIsNumber result × (next ≤ draws)
-Within draws (R.Refused x) = Unit {0}
+abbrev pub EndsWithin : ℕ → Rolled → Type 0
+EndsWithin draws (R.Ended result next) = ScoreIsNumber result × (next ≤ draws)
+EndsWithin draws (R.Refused x) = Unit {0}

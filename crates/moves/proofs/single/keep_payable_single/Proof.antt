@@ -1,4 +1,4 @@
--- `moves::amounts::keep_payable_single` meets its contract.
+-- `moves::single::keep_payable_single` meets its contract.
 -- Assumes nothing.
 use mathlib.Core.Path.{sym, _∙_}
 use Prim.Native.Nat.{_-_, _<_}
@@ -12,8 +12,8 @@ use Rattle.action.specs.Table.{attributesOf}
 use Rattle.action.specs.laws.Bounds.{dearest-most}
 use Rattle.action_set.specs.Sets.{SetIn}
 use Rattle.moves.specs.laws.Amounts.{payable-all}
-use Rattle.moves.proofs.amounts.keep_payable_single.Statement.{statement}
-use Rattle.moves.proofs.amounts.keep_payable_single.Tie as tie
+use Rattle.moves.proofs.single.keep_payable_single.Statement.{statement}
+use Rattle.moves.proofs.single.keep_payable_single.Tie as tie
 
 abbrev Inv-loop : tie.InvT-loop
 Inv-loop points set kept₀ remaining₀ kept remaining = Walk actions (λ n. affordable points (attributesOf n .«cp_cost»)) set kept remaining

@@ -1,4 +1,4 @@
--- `score::scoring::score_single` meets its contract.
+-- `score::single::score_single` meets its contract.
 -- Assumes nothing.
 use mathlib.Core.Path.{_≡_}
 use mathlib.Core.Bool.{not}
@@ -8,8 +8,8 @@ use lib.Ieee.{Float, isNan}
 use borrow.Author.Tests.{eq-eqb, ne-eqb}
 use Rattle.score.specs.Score.{scoreOf}
 use Rattle.score.specs.laws.Score.{score-no-nan}
-use Rattle.score.proofs.scoring.score_single.Statement.{statement}
-use Rattle.score.proofs.scoring.score_single.Tie as tie
+use Rattle.score.proofs.single.score_single.Statement.{statement}
+use Rattle.score.proofs.single.score_single.Tie as tie
 
 -- an answer that is the score is no NaN: the steps are at most 255 by their type
 told : (c : tie.Start) {r : Float} → r ≡ scoreOf (c .args .context) (c .args .state) → (r ≡ scoreOf (c .args .context) (c .args .state)) × T (not (isNan r))
