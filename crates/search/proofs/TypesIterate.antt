@@ -9,15 +9,16 @@ use denote.Builtin.{f32}
 use denote.Plain.{UInt}
 use Rattle.rollout.specs.inner.Movable.{Movable}
 use Rattle.tree.proofs.node.Node as T
+use Rattle.tree.proofs.Types.{node′}
 use Rattle.search.specs.Iterate.{iterateOf}
-use Rattle.search.specs.inner.Ready.{Ready, planOf, stoppedBy, goneBy, Turns}
+use Rattle.search.specs.inner.Ready.{Ready, planOf, Storing, Carried, stoppedBy, goneBy, Turns}
 use Rattle.search.proofs.plan.Plan as P
 use Rattle.search.proofs.plan.Plan.Laws as P′
 use Rattle.search.proofs.iterate.Turned as I
 use Rattle.search.proofs.iterate.Turned.Laws as I′
-use Rattle.walks.proofs.Values.{Datum, usize′, u32′, f32′, struct′}
+use Rattle.walks.proofs.Values.{Datum, usize′, unit′, struct′}
 use Rattle.walks.proofs.Functions.{nothing-asked, that, shr, mut, SlicesFn, ShrFn, PlainFn}
-use Rattle.search.proofs.TypesSelect.{context′, state′, options′}
+use Rattle.search.proofs.TypesSelect.{context′, options′, chosen′}
 
 -- ---- types
 
@@ -27,15 +28,24 @@ plan′ = struct′ P.the-type P′.the-laws P′.the-copy P′.the-plain
 abbrev pub turned′ : Datum
 turned′ = struct′ I.the-type I′.the-laws I′.the-copy I′.the-plain
 
--- ---- the plan
+-- ---- the plan, and what carries it out
 
-abbrev pub planned′ : ShrFn (UInt w8)
-planned′ = record {
-  takes = context′ ∷ f32′ ∷ state′ ∷ u32′ ∷ f32′ ∷ usize′ ∷ usize′ ∷ usize′ ∷ [];
+abbrev pub plan-at′ : ShrFn (UInt w8)
+plan-at′ = record {
+  takes = context′ ∷ options′ ∷ chosen′ ∷ node′ ∷ node′ ∷ usize′ ∷ usize′ ∷ usize′ ∷ [];
   gives = plan′;
-  asks = that (λ xs a. Movable (a .0) (a .1 .1 .0) (a .1 .1 .1 .0) × (a .1 .1 .1 .1 .1 .1 .1 .0 ≤ length xs) × (a .1 .1 .1 .1 .1 .0 ≤ a .1 .1 .1 .1 .1 .1 .0)
+  asks = that (λ xs a. Movable (a .0) (a .1 .1 .0 .state) (a .1 .1 .1 .0 .unused) × (a .1 .1 .1 .1 .1 .1 .1 .0 ≤ length xs) × (a .1 .1 .1 .1 .1 .0 ≤ a .1 .1 .1 .1 .1 .1 .0)
   × (a .1 .1 .1 .1 .1 .1 .0 + length xs < 2 ^ 64));
-  says = λ xs a r. r ≡ planOf (a .0) (a .1 .0) (a .1 .1 .0) (a .1 .1 .1 .0) (a .1 .1 .1 .1 .0) (a .1 .1 .1 .1 .1 .0) (a .1 .1 .1 .1 .1 .1 .0) (a .1 .1 .1 .1 .1 .1 .1 .0) xs;
+  says = λ xs a r. r ≡ planOf (a .0) (a .1 .0 .«score_storage_threshold») (a .1 .1 .0 .state) (a .1 .1 .1 .0 .unused) (a .1 .1 .1 .1 .0 .«max_score») (a .1 .1 .1 .1 .1 .0)
+  (a .1 .1 .1 .1 .1 .1 .0) (a .1 .1 .1 .1 .1 .1 .1 .0) xs;
+}
+
+abbrev pub carry-out′ : SlicesFn (mut T.the-row ∷ mut (UInt w32) ∷ shr (UInt w8) ∷ [])
+carry-out′ = record {
+  takes = context′ ∷ chosen′ ∷ plan′ ∷ usize′ ∷ usize′ ∷ [];
+  gives = unit′;
+  asks = that (λ x a. Storing (a .0) (a .1 .0 .state) (x .0) (a .1 .1 .1 .0) (a .1 .0 .at) (x .1 .0) (x .1 .1 .0) (a .1 .1 .1 .1 .0) (a .1 .1 .0 .stored));
+  says = λ x a _ z. Carried (a .0) (a .1 .0 .state) (x .0) (a .1 .1 .1 .0) (a .1 .0 .at) (x .1 .1 .0) (a .1 .1 .1 .1 .0) (a .1 .1 .0 .stored) (a .1 .1 .0 .score) (z .0) (z .1 .0);
 }
 
 -- ---- the iteration

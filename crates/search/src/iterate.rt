@@ -2,11 +2,13 @@
 ghost use mathlib.Core.Path.{_≡_};
 ghost use Prim.Native.Nat.{_+_, _≤_, _<_, _^_};
 ghost use lib.ListN.{length};
+ghost use Rattle.rollout.specs.inner.Movable.{Movable};
 ghost use Rattle.search.specs.Iterate.{iterateOf};
-ghost use Rattle.search.specs.inner.Ready.{Ready, stoppedBy, goneBy, Turns};
+ghost use Rattle.search.specs.inner.Ready.{Ready, planOf, Storing, Carried, stoppedBy, goneBy, Turns};
 use super::options::SearchOptions;
 use super::plan::Plan;
 use super::plan::planned;
+use super::select::Chosen;
 use super::select::select;
 use super::store::store_path;
 use craft_context::CraftContext;
@@ -41,6 +43,62 @@ fn gone(plan: Plan, count: usize) -> Turned
     }
 }
 
+// The plan of what starts at the chosen record, n.
+fn plan_at(
+    draws: &[u8],
+    context: CraftContext,
+    options: SearchOptions,
+    chosen: Chosen,
+    n: Node,
+    root: Node,
+    count: usize,
+    records: usize,
+    at: usize,
+) -> Plan
+    requires { ⌜ Movable context (chosen .state) (n .unused) × (at ≤ length (now draws)) × (count ≤ records) × (records + length (now draws) < 2 ^ 64) ⌝ }
+    ensures { λ r. ⌜ r ≡ planOf context (options .«score_storage_threshold») (chosen .state) (n .unused) (root .«max_score») count records at (now (draws .entry)) ⌝ }
+{
+    planned(
+        draws,
+        context,
+        options.score_storage_threshold,
+        chosen.state,
+        n.unused,
+        root.max_score,
+        count,
+        records,
+        at,
+    )
+}
+
+// The path is stored, and the score propagated from its end.
+fn carry_out(
+    nodes: &mut [Node],
+    links: &mut [u32],
+    draws: &[u8],
+    context: CraftContext,
+    chosen: Chosen,
+    plan: Plan,
+    count: usize,
+    at: usize,
+)
+    requires { ⌜ Storing context (chosen .state) (now nodes) count (chosen .at) (now links) (now draws) at (plan .stored) ⌝ }
+    ensures { λ _. ⌜ Carried context (chosen .state) (now (nodes .entry)) count (chosen .at) (now (draws .entry)) at (plan .stored) (plan .score) (now (nodes .exit)) (now (links .exit)) ⌝ }
+{
+    let end = store_path(
+        nodes,
+        links,
+        draws,
+        context,
+        chosen.state,
+        count,
+        chosen.at,
+        at,
+        plan.stored,
+    );
+    touch_path(nodes, end, 0, plan.score);
+}
+
 // One that is refused leaves the records and the index as they were.
 pub fn iterate(
     nodes: &mut [Node],
@@ -58,32 +116,11 @@ pub fn iterate(
     let chosen = select(nodes, links, logs, context, options, count);
     let n = node_at(nodes, chosen.at);
     let root = node_at(nodes, 0);
-    let plan = planned(
-        draws,
-        context,
-        options.score_storage_threshold,
-        chosen.state,
-        n.unused,
-        root.max_score,
-        count,
-        nodes.len(),
-        at,
-    );
+    let plan = plan_at(draws, context, options, chosen, n, root, count, nodes.len(), at);
     let passed = is_passed(plan.checked);
     if !passed {
         return stopped(plan, count, at);
     }
-    let end = store_path(
-        nodes,
-        links,
-        draws,
-        context,
-        chosen.state,
-        count,
-        chosen.at,
-        at,
-        plan.stored,
-    );
-    touch_path(nodes, end, 0, plan.score);
+    carry_out(nodes, links, draws, context, chosen, plan, count, at);
     gone(plan, count)
 }

@@ -22,7 +22,7 @@ use Rattle.rollout.specs.Rollout.{rolledFrom, sampledOf, drawnState, strictMove
 use Rattle.tree.specs.declared.node.Node.{Node}
 use Rattle.tree.specs.Node.{plusZero}
 use Rattle.tree.specs.Sound.{isCount}
-use Rattle.tree.specs.Tree.{nodeAt}
+use Rattle.tree.specs.Tree.{nodeAt, backOf}
 use Rattle.tree.specs.inner.Sound.{SoundTree}
 use Rattle.search.specs.declared.options.SearchOptions.{SearchOptions}
 use Rattle.search.specs.declared.select.Chosen.{Chosen}
@@ -107,7 +107,16 @@ pub record Storing (c : CraftContext) (s : CraftState) (nodes : List Node) (coun
 pub record Stores (c : CraftContext) (s : CraftState) (nodes : List Node) (count k : ℕ) (draws : List ℕ) (at stored : ℕ) (r : ℕ) (after : List Node)
     (index : List ℕ) : Type 0 where
   pub last : r ≡ lastStored count k stored
+  pub inside : r < count + stored
+  pub growing : Growing c after (count + stored)
   pub records : after ≡ storeOf c nodes count k s (sampledOf c s (nodeAt nodes k .unused) stored (drop at draws))
+  pub links : Links after (count + stored) index
+
+-- and after the score was propagated from there
+pub record Carried (c : CraftContext) (s : CraftState) (nodes : List Node) (count k : ℕ) (draws : List ℕ) (at stored : ℕ) (score : Float) (after : List Node)
+    (index : List ℕ) : Type 0 where
+  pub records : after
+      ≡ backOf (storeOf c nodes count k s (sampledOf c s (nodeAt nodes k .unused) stored (drop at draws))) (lastStored count k stored) 0 score
   pub links : Links after (count + stored) index
 
 -- ---- an iteration, and all of them

@@ -1,5 +1,5 @@
--- An iteration by its plan: a plan that is refused is an iteration that is; one that passes has what storing its path and the way up from its end ask for, and
--- they come to the records and the index of the iteration.
+-- An iteration by its plan: a plan that is refused is an iteration that is; one that passes has what carrying it out asks for, and that comes to the records
+-- and the index of the iteration.
 -- Assumes nothing.
 use mathlib.Core.Path.{_≡_, refl, sym, ap, subst, _∙_}
 use mathlib.Core.Bool.{Bool, true, false, cond}
@@ -23,20 +23,17 @@ use Rattle.rollout.specs.declared.rollout.Rolled.the-variants as L
 use Rattle.rollout.specs.Rollout.{drawnState, strictMoves, rolledFrom}
 use Rattle.rollout.specs.inner.Movable.{Movable}
 use Rattle.tree.specs.declared.node.Node.{Node}
-use Rattle.tree.specs.Tree.{nodeAt, backOf, maxAt}
-use Rattle.tree.specs.inner.Back.{Reaches, isPassed}
+use Rattle.tree.specs.Tree.{nodeAt, maxAt}
+use Rattle.tree.specs.inner.Back.{isPassed}
 use Rattle.search.specs.declared.options.SearchOptions.{SearchOptions}
 use Rattle.search.specs.declared.select.Chosen.{Chosen}
 use Rattle.search.specs.declared.plan.Plan.{Plan}
 use Rattle.search.specs.declared.iterate.Turned.{Turned}
 use Rattle.search.specs.Select.{selectOf, stateAt}
-use Rattle.search.specs.Iterate.{scoreIn, isWorth, lastStored, Growth, Turn, Goes, Stops, rolledOf, grownOf, turnBy, iterateOf}
-use Rattle.search.specs.inner.Links.{Links}
-use Rattle.search.specs.inner.Ready.{Ready, chosenOf, refusedPlan, passedPlan, planBy, planOf, Drawable, Storing, Stores, stoppedBy, goneBy, turnedOf, recordsAfter, Turns}
+use Rattle.search.specs.Iterate.{scoreIn, isWorth, Growth, Turn, Goes, Stops, rolledOf, grownOf, turnBy, iterateOf}
+use Rattle.search.specs.inner.Ready.{Ready, chosenOf, refusedPlan, passedPlan, planBy, planOf, Drawable, Storing, Carried, stoppedBy, goneBy, turnedOf, recordsAfter, Turns}
 use Rattle.search.specs.laws.Legal.{unused-set, unused-plain, grown-timely}
-use Rattle.search.specs.laws.Stored.{Stored, last-inside}
-use Rattle.search.specs.laws.Touched.{Touches, touch-links, iterated}
-use Rattle.search.specs.laws.Iterate.{storedBy, stored-most, storing, Grows, selected-inside, rolls, propagated-score, iteration-stored}
+use Rattle.search.specs.laws.Iterate.{storedBy, stored-most, storing, Grows, selected-inside, rolls}
 
 -- ---- the draws of a rollout that ended
 
@@ -194,27 +191,9 @@ module _ (c : CraftContext) (o : SearchOptions) (logs : List Float) (draws : Lis
             index = ready .index;
           }
 
-      stores : Stored c nodes count selected n (storing c o logs draws growth n)
-      stores = iteration-stored c o logs draws growth (ready .done) (ready .asked) grows (p .rolled) n few (p .room)
-
-      touches : Touches c (storing c o logs draws growth n) (count + n) (lastStored count selected n) (ready .done) (scoreIn (p .result))
-      touches =
-          iterated c nodes count selected n (ready .done) (scoreIn (p .result)) (ready .visited) ready-selected stores (omega (arith, ready .few))
-          (propagated-score c o logs draws growth (ready .done) (ready .asked) grows (p .rolled))
-
-      module _ {end : ℕ} {path : List Node} {index : List ℕ} (st : Stores c state nodes count selected draws at n end path index) where
-        pub pass-reaches : Reaches path end 0
-        pass-reaches = rw (st .last, st .records) (touches .reaches)
-
-        pub pass-turns : {r : Turned} {after : List Node} → r ≡ goneBy (passedPlan (p .result) (p .end) n) count → after ≡ backOf path end 0 (scoreIn (p .result))
-            → Turns nodes count at turn r after index
-        pass-turns e f =
-            rw (e, f, p .goes)
-            (record {
-              answer = refl;
-              records = rw (st .last, st .records) refl;
-              links = touch-links path (count + n) end (scoreIn (p .result)) (rw (st .records) (stores .growing .tree)) (rw (st .last) (last-inside count selected n ready-selected)) index (st .links);
-            })
+      pub pass-turns : {r : Turned} {after : List Node} {index : List ℕ} → r ≡ goneBy (passedPlan (p .result) (p .end) n) count
+          → Carried c state nodes count selected draws at n (scoreIn (p .result)) after index → Turns nodes count at turn r after index
+      pass-turns e out = rw (e, p .goes) (record { answer = refl; records = out .records; links = out .links })
 
 -- ---- as the code has it: the chosen record and the plan are what the functions answered
 
@@ -248,11 +227,7 @@ module _ (c : CraftContext) (o : SearchOptions) (logs : List Float) (draws : Lis
       pub plan-storing : Storing c (chosen .state) nodes count (chosen .at) links draws at (p .stored)
       plan-storing = rw (e, is) (pass-storing c o logs draws nodes count at ready passes inside)
 
-      module _ {end : ℕ} {path : List Node} {index : List ℕ} (st : Stores c (chosen .state) nodes count (chosen .at) draws at (p .stored) end path index) where
-        pub plan-reaches : Reaches path end 0
-        plan-reaches = pass-reaches c o logs draws nodes count at ready passes (rw (e, is) at st)
-
-        pub plan-turns : {r : Turned} {after : List Node} → r ≡ goneBy p count → after ≡ backOf path end 0 (p .score)
-            → Turns nodes count at (turn c o logs draws nodes count at) r after index
-        plan-turns f g =
-            pass-turns c o logs draws nodes count at ready passes (rw (e, is) at st) (f ∙ ap (λ (x : Plan). goneBy x count) is) (g ∙ ap (λ (x : Plan). backOf path end 0 (x .score)) is)
+      pub plan-turns : {r : Turned} {after : List Node} {index : List ℕ} → r ≡ goneBy p count
+          → Carried c (chosen .state) nodes count (chosen .at) draws at (p .stored) (p .score) after index
+          → Turns nodes count at (turn c o logs draws nodes count at) r after index
+      plan-turns f out = pass-turns c o logs draws nodes count at ready passes (f ∙ ap (λ (x : Plan). goneBy x count) is) (rw (e, is) at out)
