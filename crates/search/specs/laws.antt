@@ -22,3 +22,4 @@ pub mod Search
 pub mod Answer
 pub mod Storing
 pub mod Planned
+pub mod Going

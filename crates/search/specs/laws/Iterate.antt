@@ -10,7 +10,7 @@ use native.Mathlib.Omega.{arith}
 use lib.Dec.{eqb, leb}
 use lib.Ieee.{Float, ofInt, lt, le, eq}
 use lib.Ieee.Bits.{is-true}
-use lib.ListN.{length, take, drop}
+use lib.ListN.{length, take, drop, length-drop}
 use lib.Seq.{take-nil, take-take}
 use borrow.Author.Tests.{leb-true, le-leb, eqb-false}
 use Rattle.laws.specs.Floats.{one, minusOne}
@@ -98,6 +98,16 @@ module _ (c : CraftContext) (o : SearchOptions) (logs : List Float) (draws : Lis
               → Accepted next
           fits true f e = record { result = result; end = end; rolls = q; room = leb-true _ _ f; same = cc }
           fits false f e = absurd (stops-never e)
+
+-- ---- the place in the draws
+
+module _ (c : CraftContext) (o : SearchOptions) (logs : List Float) (draws : List ℕ) (g : Growth) where
+  pub rolled-place : {result : CraftResult} {end : ℕ} → rolledOf c o logs draws g ≡ L.Ended result end → g .at ≤ length draws → end ≤ length draws
+  rolled-place {result} {end} r h =
+      omega (arith, rolled c (selectedState c o logs draws g) (unusedOf c o logs draws g) (g .at) (drop (g .at) draws) result end r .most, length-drop (g .at) draws)
+
+  pub iterate-place : {next : Growth} → iterateOf c o logs draws g ≡ Goes next → g .at ≤ length draws → next .at ≤ length draws
+  iterate-place e h = let a = accepted c o logs draws g e in rw (a .same) (rolled-place (a .rolls) h)
 
 -- ---- THE theorem
 

@@ -8,7 +8,7 @@ use Prim.Native.Nat.{ℕ, zero, suc, _+_, _-_, _≤_, _<_}
 use native.Mathlib.Omega.{arith}
 use lib.Dec.{eqb, ltb, leb}
 use lib.Ieee.{Float}
-use lib.ListN.{length, drop, length-drop}
+use lib.ListN.{length, drop}
 use borrow.Author.Tests.{leb-true, ltb-true}
 use Rattle.laws.specs.laws.Tests.{true-false}
 use Rattle.refusal.specs.declared.Refusal.{Refusal}
@@ -33,7 +33,7 @@ use Rattle.search.specs.Select.{selectOf, stateAt}
 use Rattle.search.specs.Iterate.{scoreIn, isWorth, Growth, Turn, Goes, Stops, rolledOf, grownOf, turnBy, iterateOf}
 use Rattle.search.specs.inner.Ready.{Ready, chosenOf, refusedPlan, passedPlan, planBy, planOf, Drawable, Storing, Carried, stoppedBy, goneBy, turnedOf, recordsAfter, Turns}
 use Rattle.search.specs.laws.Legal.{unused-set, unused-plain, grown-timely}
-use Rattle.search.specs.laws.Iterate.{storedBy, stored-most, storing, Grows, selected-inside, rolls}
+use Rattle.search.specs.laws.Iterate.{storedBy, stored-most, storing, Grows, selected-inside, rolled-place, rolls}
 
 -- ---- the draws of a rollout that ended
 
@@ -172,12 +172,6 @@ module _ (c : CraftContext) (o : SearchOptions) (logs : List Float) (draws : Lis
           let from : at ≤ p .end = rolls c o logs draws growth (ready .done) (ready .asked) grows (p .rolled) .least in
           omega arith
 
-      -- the place after it
-      pub pass-place : at ≤ length draws → p .end ≤ length draws
-      pass-place h =
-          let most : p .end ≤ at + length (drop at draws) = rolls c o logs draws growth (ready .done) (ready .asked) grows (p .rolled) .most in
-          omega (arith, most, length-drop at draws)
-
       pub pass-storing : at ≤ length draws → Storing c state nodes count selected links draws at n
       pass-storing h =
           record {
@@ -186,7 +180,7 @@ module _ (c : CraftContext) (o : SearchOptions) (logs : List Float) (draws : Lis
             inside = ready-selected;
             state = refl;
             room = p .room;
-            draws-left = omega (arith, few, pass-place h);
+            draws-left = omega (arith, few, rolled-place c o logs draws growth (p .rolled) h);
             drawable = ended-drawable c n state unused at (drop at draws) (p .rolled) few;
             index = ready .index;
           }
