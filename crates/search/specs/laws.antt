@@ -23,3 +23,4 @@ pub mod Answer
 pub mod Storing
 pub mod Planned
 pub mod Going
+pub mod Entry
