@@ -4,3 +4,4 @@ pub mod TypesSelect
 pub mod TypesStore
 pub mod TypesIterate
 pub mod TypesGrow
+pub mod TypesSearch
