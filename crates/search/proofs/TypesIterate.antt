@@ -35,9 +35,9 @@ plan-at′ = record {
   takes = context′ ∷ options′ ∷ chosen′ ∷ node′ ∷ node′ ∷ usize′ ∷ usize′ ∷ usize′ ∷ [];
   gives = plan′;
   asks = that (λ xs a. Movable (a .0) (a .1 .1 .0 .state) (a .1 .1 .1 .0 .unused) × (a .1 .1 .1 .1 .1 .1 .1 .0 ≤ length xs) × (a .1 .1 .1 .1 .1 .0 ≤ a .1 .1 .1 .1 .1 .1 .0)
-  × (a .1 .1 .1 .1 .1 .1 .0 + length xs < 2 ^ 64));
+      × (a .1 .1 .1 .1 .1 .1 .0 + length xs < 2 ^ 64));
   says = λ xs a r. r ≡ planOf (a .0) (a .1 .0 .«score_storage_threshold») (a .1 .1 .0 .state) (a .1 .1 .1 .0 .unused) (a .1 .1 .1 .1 .0 .«max_score») (a .1 .1 .1 .1 .1 .0)
-  (a .1 .1 .1 .1 .1 .1 .0) (a .1 .1 .1 .1 .1 .1 .1 .0) xs;
+      (a .1 .1 .1 .1 .1 .1 .0) (a .1 .1 .1 .1 .1 .1 .1 .0) xs;
 }
 
 abbrev pub carry-out′ : SlicesFn (mut T.the-row ∷ mut (UInt w32) ∷ shr (UInt w8) ∷ [])
@@ -62,5 +62,5 @@ iterate′ = record {
   gives = turned′;
   asks = that (λ x a. Ready (a .0) (a .1 .0) (x .1 .1 .0) (x .0) (a .1 .1 .0) (x .1 .0) × (a .1 .1 .1 .0 ≤ length (x .1 .1 .1 .0)));
   says = λ x a r z. Turns (x .0) (a .1 .1 .0) (a .1 .1 .1 .0)
-  (iterateOf (a .0) (a .1 .0) (x .1 .1 .0) (x .1 .1 .1 .0) (record { nodes = x .0; count = a .1 .1 .0; at = a .1 .1 .1 .0 })) r (z .0) (z .1 .0);
+      (iterateOf (a .0) (a .1 .0) (x .1 .1 .0) (x .1 .1 .1 .0) (record { nodes = x .0; count = a .1 .1 .0; at = a .1 .1 .1 .0 })) r (z .0) (z .1 .0);
 }

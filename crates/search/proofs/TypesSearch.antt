@@ -16,8 +16,8 @@ use Rattle.tree.proofs.Types.{node′}
 use Rattle.tree.proofs.TypesEntries.{solved′}
 use Rattle.search.specs.Search.{noProgress, Searches}
 use Rattle.search.specs.inner.Entry.{firstTests, soFar, isFound, progressBy, Replays, pathFound}
-use Rattle.search.proofs.search.Searched as A
-use Rattle.search.proofs.search.Searched.Laws as A′
+use Rattle.search.proofs.entry.Searched as A
+use Rattle.search.proofs.entry.Searched.Laws as A′
 use Rattle.walks.proofs.Values.{Datum, usize′, bool′, enum′}
 use Rattle.walks.proofs.Functions.{nothing-asked, that, shr, mut, SlicesFn, ShrFn, PlainFn}
 use Rattle.search.proofs.TypesSelect.{context′, options′}

@@ -116,7 +116,17 @@ pub fn iterate(
     let chosen = select(nodes, links, logs, context, options, count);
     let n = node_at(nodes, chosen.at);
     let root = node_at(nodes, 0);
-    let plan = plan_at(draws, context, options, chosen, n, root, count, nodes.len(), at);
+    let plan = plan_at(
+        draws,
+        context,
+        options,
+        chosen,
+        n,
+        root,
+        count,
+        nodes.len(),
+        at,
+    );
     let passed = is_passed(plan.checked);
     if !passed {
         return stopped(plan, count, at);

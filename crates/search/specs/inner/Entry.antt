@@ -19,9 +19,9 @@ use Rattle.tree.specs.declared.paths.Solved.the-variants as P
 use Rattle.tree.specs.Refusals.{newCount}
 use Rattle.search.specs.declared.options.SearchOptions.{SearchOptions}
 use Rattle.search.specs.declared.grow.Grown.{Grown}
-use Rattle.search.specs.declared.search.Progress.{Progress}
-use Rattle.search.specs.declared.search.Searched.{Searched}
-use Rattle.search.specs.declared.search.Searched.the-variants as S
+use Rattle.search.specs.declared.entry.Progress.{Progress}
+use Rattle.search.specs.declared.entry.Searched.{Searched}
+use Rattle.search.specs.declared.entry.Searched.the-variants as S
 use Rattle.search.specs.Options.{searchTest}
 
 -- `askedTests`, of as many records

@@ -9,7 +9,6 @@ use lib.Ieee.{Float, toUnsigned}
 use lib.ListN.{length, drop}
 use Rattle.refusal.specs.declared.Refusal.{Refusal}
 use Rattle.refusal.specs.declared.Refusal.the-variants.{NoRoom}
-use Rattle.refusal.specs.declared.Checked.{Checked}
 use Rattle.refusal.specs.declared.Checked.the-variants as K
 use Rattle.action_set.specs.Sets.{sizeOf}
 use Rattle.craft_context.specs.declared.context.CraftContext.{CraftContext}
@@ -36,7 +35,7 @@ use Rattle.search.specs.declared.iterate.Turned.{Turned}
 use Rattle.search.specs.declared.grow.Grown.{Grown}
 use Rattle.search.specs.Options.{iterationsMost}
 use Rattle.search.specs.Select.{lnOf, weightsOf, selectOf, stateAt}
-use Rattle.search.specs.Iterate.{scoreIn, isWorth, storedOf, storeOf, lastStored, Growth, Turn, Goes, Stops}
+use Rattle.search.specs.Iterate.{scoreIn, isWorth, storedOf, storeOf, lastStored, Turn, Goes, Stops}
 use Rattle.search.specs.Search.{Outcome, growFrom}
 use Rattle.search.specs.inner.Asked.{Asked}
 use Rattle.search.specs.inner.Links.{Links}

@@ -3,16 +3,14 @@
 -- Assumes nothing.
 use mathlib.Core.Path.{_≡_, refl, sym, ap, subst, _∙_}
 use mathlib.Core.Bool.{Bool, true, false, cond}
-use mathlib.Core.List.{List, [], _∷_}
+use mathlib.Core.List.{List}
 use Prim.Native.Nat.{ℕ, _≤_, _<_}
 use native.Mathlib.Nat.{zero-add}
-use native.Mathlib.Omega.{arith}
 use lib.Dec.{leb}
 use lib.Ieee.{Float}
 use lib.ListN.{length, take}
 use borrow.Author.Tests.{leb-true}
 use Rattle.laws.specs.laws.Tests.{true-false}
-use Rattle.refusal.specs.declared.Refusal.{Refusal}
 use Rattle.refusal.specs.declared.Refusal.the-variants.{NoRoom}
 use Rattle.refusal.specs.declared.Checked.{Checked}
 use Rattle.refusal.specs.declared.Checked.the-variants.{Passed, Refused}
@@ -29,12 +27,12 @@ use Rattle.tree.specs.declared.node.Node.{Node}
 use Rattle.tree.specs.declared.paths.Solved.{Solved}
 use Rattle.tree.specs.declared.paths.Solved.the-variants as P
 use Rattle.tree.specs.Paths.{Solves}
-use Rattle.tree.specs.Tree.{plantedOf, isSound, solutionOf, endOf}
+use Rattle.tree.specs.Tree.{plantedOf, isSound, endOf}
 use Rattle.tree.specs.laws.Tree.{of-tree}
 use Rattle.search.specs.declared.options.SearchOptions.{SearchOptions}
 use Rattle.search.specs.declared.grow.Grown.{Grown}
-use Rattle.search.specs.declared.search.Searched.{Searched}
-use Rattle.search.specs.declared.search.Searched.the-variants as S
+use Rattle.search.specs.declared.entry.Searched.{Searched}
+use Rattle.search.specs.declared.entry.Searched.the-variants as S
 use Rattle.search.specs.Search.{Outcome, growOf, noProgress, progressOf, pathOf, foundOf, askedTests, settledBy, pathTests, searchedTold, searchedOf, Searches}
 use Rattle.search.specs.inner.Grown.{Growing}
 use Rattle.search.specs.inner.Ready.{Started, grownAnswer, GrowsTo}
@@ -132,9 +130,11 @@ module _ (c : CraftContext) (o : SearchOptions) (logs : List Float) (draws : Lis
       replays = rw (solved-is, written-is) (go (leb (length path) (length out)) refl)
         where
           go : (b : Bool) → Room b → Replays c (solvedBy b) (writtenBy b)
-          go true f =
-              (tests-asked c o logs nodes byte p .0 .context, rw length-over (leb-true _ _ f),
-              rw (back f) (path-known c (grownTo .growth .nodes) (grownTo .growth .count) growing))
+          go true f = (
+            tests-asked c o logs nodes byte p .0 .context,
+            rw length-over (leb-true _ _ f),
+            rw (back f) (path-known c (grownTo .growth .nodes) (grownTo .growth .count) growing),
+          )
           go false f = tt
 
       found : grownTo .checked ≡ Passed → {r : Searched} → r ≡ pathFound c (progressOf grownTo) solved written

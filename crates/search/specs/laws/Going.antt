@@ -4,14 +4,13 @@
 use mathlib.Core.Path.{_≡_, refl, sym, ap, _∙_}
 use mathlib.Core.Bool.{Bool, true, false, cond, _&&_}
 use mathlib.Core.List.{List}
-use Prim.Native.Nat.{ℕ, zero, suc, _+_, _*_, _-_, _≤_, _<_}
+use Prim.Native.Nat.{ℕ, suc, _+_, _*_, _-_, _≤_, _<_}
 use native.Mathlib.Omega.{arith}
 use lib.Dec.{ltb}
 use lib.Ieee.{Float}
 use lib.ListN.{length, replicate}
 use borrow.Author.Tests.{ltb-true, ltb-false}
 use Rattle.laws.specs.laws.Tests.{true-false, both}
-use Rattle.refusal.specs.declared.Refusal.{Refusal}
 use Rattle.refusal.specs.declared.Checked.{Checked}
 use Rattle.refusal.specs.declared.Checked.the-variants.{Passed, Refused}
 use Rattle.craft_context.specs.declared.context.CraftContext.{CraftContext}
@@ -23,7 +22,7 @@ use Rattle.search.specs.declared.grow.Grown.{Grown}
 use Rattle.search.specs.Iterate.{Growth, Turn, Goes, Stops, iterateOf}
 use Rattle.search.specs.Search.{Outcome, onTurn, growFrom}
 use Rattle.search.specs.inner.Links.{linked, Links}
-use Rattle.search.specs.inner.Ready.{Ready, turnedOf, recordsAfter, Turns, Started, noneGrown, goingOf, grownBy, grownAnswer, outcomeFrom, GrowsTo}
+use Rattle.search.specs.inner.Ready.{Ready, turnedOf, recordsAfter, Turns, Started, noneGrown, goingOf, grownBy, outcomeFrom, GrowsTo}
 use Rattle.search.specs.laws.Asked.{Asked}
 use Rattle.search.specs.laws.Planted.{planted-growing, planted-visited}
 use Rattle.search.specs.laws.Links.{links-none}

@@ -1,7 +1,7 @@
 -- An iteration by its plan: a plan that is refused is an iteration that is; one that passes has what carrying it out asks for, and that comes to the records
 -- and the index of the iteration.
 -- Assumes nothing.
-use mathlib.Core.Path.{_≡_, refl, sym, ap, subst, _∙_}
+use mathlib.Core.Path.{_≡_, refl, sym, ap, _∙_}
 use mathlib.Core.Bool.{Bool, true, false, cond}
 use mathlib.Core.List.{List, [], _∷_}
 use Prim.Native.Nat.{ℕ, zero, suc, _+_, _-_, _≤_, _<_}
@@ -33,7 +33,7 @@ use Rattle.search.specs.Select.{selectOf, stateAt}
 use Rattle.search.specs.Iterate.{scoreIn, isWorth, Growth, Turn, Goes, Stops, rolledOf, grownOf, turnBy, iterateOf}
 use Rattle.search.specs.inner.Ready.{Ready, chosenOf, refusedPlan, passedPlan, planBy, planOf, Drawable, Storing, Carried, stoppedBy, goneBy, turnedOf, recordsAfter, Turns}
 use Rattle.search.specs.laws.Legal.{unused-set, unused-plain, grown-timely}
-use Rattle.search.specs.laws.Iterate.{storedBy, stored-most, storing, Grows, selected-inside, rolled-place, rolls}
+use Rattle.search.specs.laws.Iterate.{storedBy, stored-most, Grows, selected-inside, rolled-place, rolls}
 
 -- ---- the draws of a rollout that ended
 
@@ -71,7 +71,7 @@ ended-drawable c {result} {end} (suc n) s moves at (d ∷ draws) e h =
 -- ---- the plan
 
 module _ (c : CraftContext) (o : SearchOptions) (logs : List Float) (draws : List ℕ) (nodes : List Node) (count at : ℕ) where
-  abbrev pub growth : Growth
+  abbrev growth : Growth
   growth = record { nodes = nodes; count = count; at = at }
 
   abbrev selected : ℕ
@@ -89,13 +89,13 @@ module _ (c : CraftContext) (o : SearchOptions) (logs : List Float) (draws : Lis
   abbrev pub plan : Plan
   plan = planOf c (o .«score_storage_threshold») state unused (maxAt nodes 0) count (length nodes) at draws
 
-  abbrev pub turn : Turn
+  abbrev turn : Turn
   turn = iterateOf c o logs draws growth
 
   abbrev stored : CraftResult → ℕ → ℕ
   stored result end = storedBy c o logs draws growth result end
 
-  pub plan-stops : isPassed (plan .checked) ≡ false → (stoppedBy plan count at ≡ turnedOf count at turn) × (nodes ≡ recordsAfter nodes turn)
+  plan-stops : isPassed (plan .checked) ≡ false → (stoppedBy plan count at ≡ turnedOf count at turn) × (nodes ≡ recordsAfter nodes turn)
   unfolding iterateOf
   plan-stops e = go (rolledOf c o logs draws growth) e
     where
@@ -115,15 +115,15 @@ module _ (c : CraftContext) (o : SearchOptions) (logs : List Float) (draws : Lis
           fits false e = (refl, refl)
 
   -- a plan that passed
-  pub record Passes : Type 0 where
-    pub result : CraftResult
-    pub end : ℕ
-    pub rolled : rolledOf c o logs draws growth ≡ L.Ended result end
-    pub planned : plan ≡ passedPlan result end (stored result end)
-    pub room : count + stored result end ≤ length nodes
-    pub goes : turn ≡ Goes (grownOf c o logs draws growth result end (stored result end))
+  record Passes : Type 0 where
+    result : CraftResult
+    end : ℕ
+    rolled : rolledOf c o logs draws growth ≡ L.Ended result end
+    planned : plan ≡ passedPlan result end (stored result end)
+    room : count + stored result end ≤ length nodes
+    goes : turn ≡ Goes (grownOf c o logs draws growth result end (stored result end))
 
-  pub plan-passes : isPassed (plan .checked) ≡ true → Passes
+  plan-passes : isPassed (plan .checked) ≡ true → Passes
   unfolding iterateOf
   plan-passes e = go (rolledOf c o logs draws growth) refl e
     where
@@ -151,10 +151,10 @@ module _ (c : CraftContext) (o : SearchOptions) (logs : List Float) (draws : Lis
     grows : Grows c growth (ready .done)
     grows = record { growing = ready .growing; visited = ready .visited }
 
-    pub ready-selected : selected < count
+    ready-selected : selected < count
     ready-selected = selected-inside c o logs draws growth (ready .done) (ready .asked) grows
 
-    pub ready-movable : Movable c state unused
+    ready-movable : Movable c state unused
     ready-movable =
         record {
           inside = grown-timely c nodes count (ready .growing) (ready .asked .context) (ready .asked .byte) selected ready-selected .inside;
@@ -172,7 +172,7 @@ module _ (c : CraftContext) (o : SearchOptions) (logs : List Float) (draws : Lis
           let from : at ≤ p .end = rolls c o logs draws growth (ready .done) (ready .asked) grows (p .rolled) .least in
           omega arith
 
-      pub pass-storing : at ≤ length draws → Storing c state nodes count selected links draws at n
+      pass-storing : at ≤ length draws → Storing c state nodes count selected links draws at n
       pass-storing h =
           record {
             growing = ready .growing;
@@ -185,7 +185,7 @@ module _ (c : CraftContext) (o : SearchOptions) (logs : List Float) (draws : Lis
             index = ready .index;
           }
 
-      pub pass-turns : {r : Turned} {after : List Node} {index : List ℕ} → r ≡ goneBy (passedPlan (p .result) (p .end) n) count
+      pass-turns : {r : Turned} {after : List Node} {index : List ℕ} → r ≡ goneBy (passedPlan (p .result) (p .end) n) count
           → Carried c state nodes count selected draws at n (scoreIn (p .result)) after index → Turns nodes count at turn r after index
       pass-turns e out = rw (e, p .goes) (record { answer = refl; records = out .records; links = out .links })
 

@@ -2,9 +2,8 @@
 -- Assumes nothing.
 use mathlib.Core.Path.{_≡_, refl, sym, ap, subst, _∙_}
 use mathlib.Core.Bool.{true}
-use mathlib.Core.List.{List, [], _∷_}
-use mathlib.Core.Logic.{⊎-elim}
-use Prim.Native.Nat.{ℕ, zero, suc, _+_, _-_, _≤_, _<_}
+use mathlib.Core.List.{List}
+use Prim.Native.Nat.{ℕ, suc, _+_, _-_, _≤_, _<_}
 use native.Mathlib.Nat.{add-zero}
 use native.Mathlib.Numerals.{add-one}
 use native.Mathlib.Omega.{arith}
@@ -34,7 +33,7 @@ use Rattle.tree.specs.laws.Upward.{root-reached}
 use Rattle.search.specs.Select.{stateAt}
 use Rattle.search.specs.Iterate.{belowOf, storeOf, lastStored}
 use Rattle.search.specs.inner.Grown.{Growing}
-use Rattle.search.specs.inner.Links.{Links, linkOf}
+use Rattle.search.specs.inner.Links.{linkOf}
 use Rattle.search.specs.inner.Ready.{Drawable, Storing, Stores, Carried}
 use Rattle.search.specs.laws.Below.{below-length, below-new, below-state, below-growing}
 use Rattle.search.specs.laws.Legal.{unused-set, unused-known, unused-plain}
@@ -80,7 +79,7 @@ module _ {c : CraftContext} {s : CraftState} {nodes : List Node} {count k : ℕ}
   named : has unused action ≡ true
   named = nth-named unused draw store-low .member .is
 
-  pub store-known : action < actions
+  store-known : action < actions
   store-known = unused-known c nodes count (st .growing) k (st .inside) action named
 
   legal : has (movesOf c s plain) action ≡ true
@@ -108,7 +107,7 @@ module _ {c : CraftContext} {s : CraftState} {nodes : List Node} {count k : ℕ}
       subst (λ (s : CraftState). executeOf c s action ≡ stateAt c (belowOf nodes count k action (strictMoves c (executeOf c s action))) count) (sym (st .state))
       (sym (below-state c nodes count k action (st .growing) (st .inside) store-room named))
 
-  pub store-next : Storing c next after (count + 1) count (linkOf links k count) draws (at + 1) n
+  store-next : Storing c next after (count + 1) count (linkOf links k count) draws (at + 1) n
   store-next =
       record {
         growing = growing-next;
@@ -122,7 +121,7 @@ module _ {c : CraftContext} {s : CraftState} {nodes : List Node} {count k : ℕ}
       }
 
   -- what the whole path leaves, the rest leaves
-  pub store-rest : storeOf c nodes count k s (sampledOf c s unused (suc n) (drop at draws))
+  store-rest : storeOf c nodes count k s (sampledOf c s unused (suc n) (drop at draws))
       ≡ storeOf c after (count + 1) count next (sampledOf c next (nodeAt after count .unused) n (drop (at + 1) draws))
   unfolding storeOf sampledOf
   store-rest = rw (drop-at draws at store-draw, new-unused, add-one count)

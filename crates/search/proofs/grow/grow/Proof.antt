@@ -18,7 +18,7 @@ use Rattle.search.specs.inner.Ready.{goingOf}
 use Rattle.search.specs.laws.Going.{Going, going-first, going-less, going-ready, going-on, going-ends, awayOf, nearer}
 use Rattle.search.proofs.grow.Grown as G
 use Rattle.search.proofs.grow.Grown.Laws as G′
-use Rattle.walks.proofs.Walking.{_≡_, refl, sym, ap, _∙_, subst, ℕ, _+_, _<_, _^_, arith, Bool, true, List, [], _∷_, lit<, givenOf, tables, _$_, !, lit, of-opd, no-more, cited, u32′, bool′, has, env, opd, part, _&_, sets, lands-in, lands-last, keeps, returns, whiles, reborrows, then, last, calls-plain, array-val, lent-view, fills, borrows, lends-array, takes-array, over, slices-proved, lend-mut, pass-shr, calls-slices}
+use Rattle.walks.proofs.Walking.{_≡_, refl, sym, _∙_, subst, ℕ, _<_, arith, Bool, true, List, [], _∷_, lit<, givenOf, tables, _$_, !, lit, of-opd, no-more, cited, u32′, bool′, has, env, opd, part, _&_, sets, lands-in, lands-last, keeps, returns, whiles, reborrows, then, last, calls-plain, array-val, lent-view, fills, borrows, lends-array, takes-array, over, slices-proved, lend-mut, pass-shr, calls-slices}
 use Rattle.search.proofs.TypesSelect.{context′, options′}
 use Rattle.search.proofs.TypesIterate.{iterate′}
 use Rattle.search.proofs.TypesGrow.{grown′, none′, is-going′, grown-by′, grow′}

@@ -5,7 +5,6 @@ use contract.Running.{tablesOf}
 use denote.Struct.Laws as LL
 use Rattle.craft_context.specs.declared.context.CraftContext.{CraftContext}
 use Rattle.rollout.specs.inner.Movable.{Movable}
-use Rattle.tree.specs.declared.node.Node.{Node}
 use Rattle.tree.specs.inner.Back.{isPassed}
 use Rattle.search.specs.declared.options.SearchOptions.{SearchOptions}
 use Rattle.search.specs.inner.Ready.{Storing}

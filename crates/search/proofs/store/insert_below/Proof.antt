@@ -7,7 +7,7 @@ use Rattle.tree.specs.declared.node.Node.{Node}
 use Rattle.tree.specs.Node.{nodeOf}
 use Rattle.tree.specs.Tree.{nodeAt}
 use Rattle.search.specs.Iterate.{drawnFrom, belowOf}
-use Rattle.walks.proofs.Walking.{_≡_, refl, sym, _∙_, subst, ℕ, _<_, arith, List, [], _∷_, tables, _$_, !, unit-lit, of-opd, no-more, cited, opd, _&_, sets, lands-in, returns, reborrows, then, calls-plain, of-shr, of-mut, slices-proved, lend-mut, lend-shr, calls-slices}
+use Rattle.walks.proofs.Walking.{_≡_, refl, sym, subst, ℕ, _<_, arith, List, [], _∷_, tables, _$_, !, unit-lit, of-opd, no-more, cited, opd, _&_, sets, lands-in, returns, reborrows, then, calls-plain, of-shr, of-mut, slices-proved, lend-mut, lend-shr, calls-slices}
 use Rattle.tree.proofs.Types.{node-at′, put-node′}
 use Rattle.tree.proofs.TypesGrow.{new′}
 use Rattle.search.proofs.TypesStore.{without′, link′, insert-below′}

@@ -13,15 +13,14 @@ use Rattle.craft_state.specs.Inside.{CraftIn}
 use Rattle.craft_state.proofs.state.CraftState as S′′
 use Rattle.step.specs.Step.{executeOf}
 use Rattle.step.specs.inner.Asked.{Playable}
-use Rattle.rollout.specs.Rollout.{strictMoves}
 use Rattle.tree.specs.declared.node.Node.{Node}
 use Rattle.tree.specs.Tree.{nodeAt}
 use Rattle.tree.proofs.node.Node as T
 use Rattle.tree.proofs.node.Node.Laws as T′
 use Rattle.search.specs.Iterate.{belowOf}
 use Rattle.search.specs.inner.Ready.{Storing}
-use Rattle.search.specs.laws.Storing.{store-draw, store-room, store-set, store-low, store-known, store-playable, store-craft, Part, part-first, part-on, part-more, part-all}
-use Rattle.walks.proofs.Walking.{_≡_, refl, sym, ap, _∙_, subst, ℕ, _+_, _-_, _<_, _≤_, _^_, arith, List, [], _∷_, ltb, ltb-true, ltb-false, lit<, givenOf, tables, _$_, !, lit, of-opd, bin, no-more, cited, usize′, has, env, opd, part, _&_, sets, sets-last, lands-in, keeps, returns, whiles, reborrows, then, calls-plain, of-shr, over, slices-proved, lend-mut, lend-shr, pass-shr, calls-slices}
+use Rattle.search.specs.laws.Storing.{store-draw, store-room, store-set, store-low, store-playable, store-craft, Part, part-first, part-on, part-more, part-all}
+use Rattle.walks.proofs.Walking.{_≡_, refl, sym, ap, _∙_, subst, ℕ, _+_, _-_, _<_, _^_, arith, List, [], _∷_, ltb, ltb-true, ltb-false, lit<, givenOf, tables, _$_, !, lit, of-opd, bin, no-more, cited, usize′, has, env, opd, part, _&_, sets, sets-last, lands-in, keeps, returns, whiles, reborrows, then, calls-plain, of-shr, over, slices-proved, lend-mut, lend-shr, pass-shr, calls-slices}
 use Rattle.tree.proofs.Types.{node′, node-at′}
 use Rattle.search.proofs.TypesSelect.{context′, state′, stepped′}
 use Rattle.search.proofs.TypesStore.{sampled′, strict-moves′, insert-below′, store-path′}

@@ -1,6 +1,6 @@
--- `search::search::search` meets its contract: a walk of its MIR, by hand, over the records, the logarithms, the draws and the room for the path.
+-- `search::entry::search` meets its contract: a walk of its MIR, by hand, over the records, the logarithms, the draws and the room for the path.
 -- Assumes nothing.
-use lib.ListN.{length, set}
+use lib.ListN.{set}
 use contract.Running.{tablesOf}
 use denote.Laws.{Is}
 use denote.Struct.Laws as LL
@@ -16,14 +16,12 @@ use Rattle.moves.specs.Moves.{movesOf}
 use Rattle.tree.specs.declared.node.Node.{Node}
 use Rattle.tree.specs.Tree.{plantedOf}
 use Rattle.search.specs.declared.options.SearchOptions.{SearchOptions}
-use Rattle.search.specs.declared.search.Searched.{Searched}
 use Rattle.search.specs.Search.{noProgress, askedTests}
-use Rattle.search.specs.inner.Ready.{Started}
 use Rattle.search.specs.inner.Entry.{firstTests, soFar}
 use Rattle.search.specs.laws.Entry.{entry-refused, entry-asked, entry-some, entry-started, entry-stopped, entry-done, entry-replays, entry-found}
 use Rattle.search.proofs.grow.Grown as G
 use Rattle.search.proofs.grow.Grown.Laws as G′
-use Rattle.walks.proofs.Walking.{_≡_, refl, sym, ap, _∙_, subst, ℕ, _≤_, arith, List, [], _∷_, lit<, not-true, not-false, tables, _$_, !, lit, of-opd, un, no-more, cited, opd, part, _&_, sets, lands-in, returns, guards, reborrows, then, calls-plain, of-mut, of-shr, of-both, slices-proved, lend-mut, lend-shr, pass-shr, calls-slices}
+use Rattle.walks.proofs.Walking.{_≡_, refl, sym, ap, _∙_, ℕ, _≤_, arith, [], _∷_, lit<, not-true, not-false, tables, _$_, !, lit, of-opd, un, no-more, cited, opd, part, _&_, sets, lands-in, returns, guards, reborrows, then, calls-plain, of-mut, of-shr, of-both, slices-proved, lend-mut, lend-shr, pass-shr, calls-slices}
 use Rattle.tree.proofs.Types.{put-node′}
 use Rattle.tree.proofs.TypesEntries.{solution′}
 use Rattle.search.proofs.TypesSelect.{context′}
@@ -35,19 +33,19 @@ use Rattle.tree.proofs.solution.Symbol as solution
 use Rattle.tree.proofs.solution.Met as solution-thm
 use Rattle.search.proofs.grow.grow.Symbol as grow
 use Rattle.search.proofs.grow.grow.Met as grow-thm
-use Rattle.search.proofs.search.begun.Symbol as begun
-use Rattle.search.proofs.search.begun.Met as begun-thm
-use Rattle.search.proofs.search.is_found.Symbol as is-found
-use Rattle.search.proofs.search.is_found.Met as is-found-thm
-use Rattle.search.proofs.search.root_of.Symbol as root-of
-use Rattle.search.proofs.search.root_of.Met as root-of-thm
-use Rattle.search.proofs.search.done.Symbol as done
-use Rattle.search.proofs.search.done.Met as done-thm
-use Rattle.search.proofs.search.path_found.Symbol as path-found
-use Rattle.search.proofs.search.path_found.Met as path-found-thm
-use Rattle.search.proofs.search.search.Key as entry
-use Rattle.search.proofs.search.search.Statement as stated
-use Rattle.search.proofs.search.search.Code as code
+use Rattle.search.proofs.entry.begun.Symbol as begun
+use Rattle.search.proofs.entry.begun.Met as begun-thm
+use Rattle.search.proofs.entry.is_found.Symbol as is-found
+use Rattle.search.proofs.entry.is_found.Met as is-found-thm
+use Rattle.search.proofs.entry.root_of.Symbol as root-of
+use Rattle.search.proofs.entry.root_of.Met as root-of-thm
+use Rattle.search.proofs.entry.done.Symbol as done
+use Rattle.search.proofs.entry.done.Met as done-thm
+use Rattle.search.proofs.entry.path_found.Symbol as path-found
+use Rattle.search.proofs.entry.path_found.Met as path-found-thm
+use Rattle.search.proofs.entry.search.Key as entry
+use Rattle.search.proofs.entry.search.Statement as stated
+use Rattle.search.proofs.entry.search.Code as code
 
 -- the most steps of a context are a u8
 steps-fit : (c : CraftContext) → Is C.the-row c (context′ .val c ∷ []) → c .«step_max» ≤ stepMost
@@ -57,14 +55,14 @@ pub search-spec : {M : Type 1} → stated.statement M
 unfolding code.routine tablesOf
 search-spec 𝓤 H 𝓜 𝓖 𝓡 =
     let 𝓣 = tablesOf 𝓤 H 𝓜 (tables 𝓤 H 𝓜 𝓡 code.env) in
-    let tests = cited 𝓤 H _ 𝓜 𝓡 code.env begun.name begun.routine code.calls-search·search·begun (begun-thm.met 𝓤 H 𝓜 𝓖 𝓡) in
-    let asks = cited 𝓤 H _ 𝓜 𝓡 code.env is-found.name is-found.routine code.calls-search·search·is-found (is-found-thm.met 𝓤 H 𝓜 𝓖 𝓡) in
-    let makes = cited 𝓤 H _ 𝓜 𝓡 code.env root-of.name root-of.routine code.calls-search·search·root-of (root-of-thm.met 𝓤 H 𝓜 𝓖 𝓡) in
+    let tests = cited 𝓤 H _ 𝓜 𝓡 code.env begun.name begun.routine code.calls-search·entry·begun (begun-thm.met 𝓤 H 𝓜 𝓖 𝓡) in
+    let asks = cited 𝓤 H _ 𝓜 𝓡 code.env is-found.name is-found.routine code.calls-search·entry·is-found (is-found-thm.met 𝓤 H 𝓜 𝓖 𝓡) in
+    let makes = cited 𝓤 H _ 𝓜 𝓡 code.env root-of.name root-of.routine code.calls-search·entry·root-of (root-of-thm.met 𝓤 H 𝓜 𝓖 𝓡) in
     let puts = cited 𝓤 H _ 𝓜 𝓡 code.env put-node.name put-node.routine code.calls-tree·put-node (put-node-thm.met 𝓤 H 𝓜 𝓖 𝓡) in
     let grows = cited 𝓤 H _ 𝓜 𝓡 code.env grow.name grow.routine code.calls-search·grow·grow (grow-thm.met 𝓤 H 𝓜 𝓖 𝓡) in
-    let tells = cited 𝓤 H _ 𝓜 𝓡 code.env done.name done.routine code.calls-search·search·done (done-thm.met 𝓤 H 𝓜 𝓖 𝓡) in
+    let tells = cited 𝓤 H _ 𝓜 𝓡 code.env done.name done.routine code.calls-search·entry·done (done-thm.met 𝓤 H 𝓜 𝓖 𝓡) in
     let solves = cited 𝓤 H _ 𝓜 𝓡 code.env solution.name solution.routine code.calls-tree·solution (solution-thm.met 𝓤 H 𝓜 𝓖 𝓡) in
-    let finds = cited 𝓤 H _ 𝓜 𝓡 code.env path-found.name path-found.routine code.calls-search·search·path-found (path-found-thm.met 𝓤 H 𝓜 𝓖 𝓡) in
+    let finds = cited 𝓤 H _ 𝓜 𝓡 code.env path-found.name path-found.routine code.calls-search·entry·path-found (path-found-thm.met 𝓤 H 𝓜 𝓖 𝓡) in
     slices-proved 𝓤 H 𝓜 𝓖 𝓡 code.env entry.name code.function _ _ (code.unfolded 𝓤 H 𝓜 𝓡) search′ refl (λ _ _ _ _ ty. ty) (λ (S, (L, (D, (O, _)))) (ys, (gs, (ds, (os, _)))) a are (same, (same-g, (same-d, (same-o, _)))) pre bs Q return.
     let c : CraftContext = a .0 in
     let o : SearchOptions = a .1 .0 in

@@ -65,7 +65,12 @@ pub enum Searched {
 }
 
 // Refusals 1, 21, and 6 where not even record 0 has room.
-fn check_first(logs: &[f32], context: CraftContext, options: SearchOptions, records: usize) -> Checked
+fn check_first(
+    logs: &[f32],
+    context: CraftContext,
+    options: SearchOptions,
+    records: usize,
+) -> Checked
     ensures { λ r. ⌜ r ≡ checksOf (firstTests records (now (logs .entry)) context options) ⌝ }
 {
     let inside = context.check();

@@ -1,11 +1,11 @@
--- `search::search::so_far` meets its contract.
+-- `search::entry::so_far` meets its contract.
 -- Assumes nothing.
 use mathlib.Core.Path.{sym, ap}
 use borrow.Author.Needs.{needs}
 use Rattle.refusal.specs.declared.Checked.{Checked}
 use Rattle.search.specs.inner.Entry.{soFar}
-use Rattle.search.proofs.search.so_far.Statement.{statement}
-use Rattle.search.proofs.search.so_far.Tie as tie
+use Rattle.search.proofs.entry.so_far.Statement.{statement}
+use Rattle.search.proofs.entry.so_far.Tie as tie
 
 pub so-far-spec : {M : Type 1} → statement M
 so-far-spec =

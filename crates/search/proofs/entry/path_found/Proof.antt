@@ -1,4 +1,4 @@
--- `search::search::path_found` meets its contract.
+-- `search::entry::path_found` meets its contract.
 -- Assumes nothing.
 use mathlib.Core.Path.{_≡_, sym, ap, subst}
 use mathlib.Core.List.{List}
@@ -12,8 +12,8 @@ use Rattle.craft_context.specs.Limits.{ContextIn}
 use Rattle.tree.specs.declared.paths.Solved.{Solved}
 use Rattle.tree.specs.declared.paths.Solved.the-variants.{Solution}
 use Rattle.search.specs.inner.Entry.{progressBy, Replays, pathFound}
-use Rattle.search.proofs.search.path_found.Statement.{statement}
-use Rattle.search.proofs.search.path_found.Tie as tie
+use Rattle.search.proofs.entry.path_found.Statement.{statement}
+use Rattle.search.proofs.entry.path_found.Tie as tie
 
 -- what the contract asks, of a path
 asked : (c : CraftContext) (out : List ℕ) {solved : Solved} → Replays c solved out → {path last : ℕ} → solved ≡ Solution path last

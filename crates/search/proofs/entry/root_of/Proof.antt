@@ -1,9 +1,9 @@
--- `search::search::root_of` meets its contract.
+-- `search::entry::root_of` meets its contract.
 -- Assumes nothing.
 use mathlib.Core.Path.{_∙_}
 use Rattle.craft_state.specs.laws.Inside.{start-in}
-use Rattle.search.proofs.search.root_of.Statement.{statement}
-use Rattle.search.proofs.search.root_of.Tie as tie
+use Rattle.search.proofs.entry.root_of.Statement.{statement}
+use Rattle.search.proofs.entry.root_of.Tie as tie
 
 pub root-of-spec : {M : Type 1} → statement M
 root-of-spec =

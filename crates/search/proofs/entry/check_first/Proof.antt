@@ -1,4 +1,4 @@
--- `search::search::check_first` meets its contract.
+-- `search::entry::check_first` meets its contract.
 -- Assumes nothing.
 use mathlib.Core.List.{[], _∷_}
 use borrow.Author.Needs.{needs}
@@ -7,8 +7,8 @@ use Rattle.refusal.specs.laws.Judge.{checks-stop-by, checks-on-by, checks-stop,
 use Rattle.craft_context.specs.Limits.{contextTests}
 use Rattle.tree.specs.Refusals.{newCount}
 use Rattle.search.specs.Options.{searchTest}
-use Rattle.search.proofs.search.check_first.Statement.{statement}
-use Rattle.search.proofs.search.check_first.Tie as tie
+use Rattle.search.proofs.entry.check_first.Statement.{statement}
+use Rattle.search.proofs.entry.check_first.Tie as tie
 
 pub check-first-spec : {M : Type 1} → statement M
 check-first-spec =
