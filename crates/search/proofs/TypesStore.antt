@@ -7,15 +7,8 @@ use mir.Syntax.{w8, w32}
 use lib.ListN.{length, getD}
 use denote.Plain.{UInt}
 use Rattle.action.specs.Known.{actions}
-use Rattle.action.specs.Table.{attributesOf}
 use Rattle.action_set.specs.Sets.{SetIn, sizeOf, nthOf}
-use Rattle.craft_context.proofs.context.CraftContext as C
-use Rattle.craft_context.proofs.context.CraftContext.Laws as C′
 use Rattle.craft_state.specs.Inside.{CraftIn}
-use Rattle.craft_state.proofs.state.CraftState as S
-use Rattle.craft_state.proofs.state.CraftState.Laws as S′
-use Rattle.step.specs.Step.{executeOf}
-use Rattle.step.specs.inner.Asked.{Playable}
 use Rattle.rollout.specs.Rollout.{strictMoves}
 use Rattle.tree.specs.Tree.{nodeAt}
 use Rattle.tree.proofs.node.Node as T
@@ -23,16 +16,9 @@ use Rattle.tree.proofs.Types.{node′}
 use Rattle.search.specs.Iterate.{drawnFrom, belowOf}
 use Rattle.search.specs.inner.Links.{linked, linkOf}
 use Rattle.search.specs.inner.Ready.{Storing, Stores}
-use Rattle.walks.proofs.Values.{Datum, usize′, u8′, u32′, unit′, struct′}
+use Rattle.walks.proofs.Values.{usize′, u8′, u32′, unit′}
 use Rattle.walks.proofs.Functions.{that, shr, mut, SlicesFn, MutFn, ShrFn, PlainFn}
-
--- ---- types
-
-abbrev pub context′ : Datum
-context′ = struct′ C.the-type C′.the-laws C′.the-copy C′.the-plain
-
-abbrev pub state′ : Datum
-state′ = struct′ S.the-type S′.the-laws S′.the-copy S′.the-plain
+use Rattle.search.proofs.TypesSelect.{context′, state′}
 
 -- ---- one record
 
@@ -58,14 +44,6 @@ sampled′ = record {
   gives = u8′;
   asks = that (λ xs a. (a .0 < length xs) × SetIn (a .1 .0) × (getD xs (a .0) 0 < sizeOf (a .1 .0)));
   says = λ xs a r. (r ≡ nthOf (a .1 .0) (getD xs (a .0) 0)) × (r < actions);
-}
-
-abbrev pub stepped′ : PlainFn
-stepped′ = record {
-  takes = context′ ∷ state′ ∷ u8′ ∷ [];
-  gives = state′;
-  asks = that (λ _ a. Playable (a .0) (a .1 .0) (a .1 .1 .0) (attributesOf (a .1 .1 .0)));
-  says = λ a r. r ≡ executeOf (a .0) (a .1 .0) (a .1 .1 .0);
 }
 
 abbrev pub strict-moves′ : PlainFn

@@ -22,10 +22,10 @@ use Rattle.tree.specs.declared.node.Node.{Node}
 use Rattle.tree.specs.Tree.{plantedOf, solutionOf, endOf}
 use Rattle.tree.specs.Refusals.{newCount}
 use Rattle.search.specs.declared.options.SearchOptions.{SearchOptions}
-use Rattle.search.specs.declared.search.Progress.{Progress}
-use Rattle.search.specs.declared.search.Found.{Found}
-use Rattle.search.specs.declared.search.Searched.{Searched}
-use Rattle.search.specs.declared.search.Searched.the-variants as S
+use Rattle.search.specs.declared.entry.Progress.{Progress}
+use Rattle.search.specs.declared.entry.Found.{Found}
+use Rattle.search.specs.declared.entry.Searched.{Searched}
+use Rattle.search.specs.declared.entry.Searched.the-variants as S
 use Rattle.search.specs.Options.{searchTest}
 use Rattle.search.specs.Select.{stateAt}
 use Rattle.search.specs.Iterate.{Growth, Turn, Goes, Stops, iterateOf}

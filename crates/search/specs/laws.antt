@@ -21,3 +21,6 @@ pub mod Path
 pub mod Search
 pub mod Answer
 pub mod Storing
+pub mod Planned
+pub mod Going
+pub mod Entry

@@ -49,7 +49,7 @@ fn check_way(survey: Survey, score: f32) -> Checked
     Checked::Passed
 }
 
-fn is_passed(checked: Checked) -> bool
+pub fn is_passed(checked: Checked) -> bool
     ensures { λ r. ⌜ r ≡ isPassed checked ⌝ }
 {
     if let Checked::Refused(_) = checked {

@@ -14,6 +14,7 @@ mod soundness;
 
 pub use back::Propagated;
 pub use back::backpropagate;
+pub use back::is_passed;
 pub use best::Best;
 pub use best::is_child;
 pub use best::pick;

@@ -1,10 +1,10 @@
 -- For the contracts of inner functions: what each step of an iteration asks, and what it answers.
 -- Assumes nothing.
 use mathlib.Core.Path.{_≡_}
-use mathlib.Core.Bool.{true, cond}
+use mathlib.Core.Bool.{Bool, true, cond, _&&_}
 use mathlib.Core.List.{List, [], _∷_}
 use Prim.Native.Nat.{ℕ, zero, suc, _+_, _-_, _≤_, _<_}
-use lib.Dec.{leb}
+use lib.Dec.{leb, ltb}
 use lib.Ieee.{Float, toUnsigned}
 use lib.ListN.{length, drop}
 use Rattle.refusal.specs.declared.Refusal.{Refusal}
@@ -14,6 +14,9 @@ use Rattle.action_set.specs.Sets.{sizeOf}
 use Rattle.craft_context.specs.declared.context.CraftContext.{CraftContext}
 use Rattle.craft_state.specs.declared.state.CraftState.{CraftState}
 use Rattle.craft_state.specs.Inside.{CraftIn}
+use Rattle.craft_state.specs.Start.{startOf}
+use Rattle.moves.specs.Modes.{plain}
+use Rattle.moves.specs.Moves.{movesOf}
 use Rattle.score.specs.declared.result.CraftResult.{CraftResult}
 use Rattle.rollout.specs.declared.rollout.Rolled.{Rolled}
 use Rattle.rollout.specs.declared.rollout.Rolled.the-variants as L
@@ -21,7 +24,9 @@ use Rattle.rollout.specs.Rollout.{rolledFrom, sampledOf, drawnState, strictMove
 use Rattle.tree.specs.declared.node.Node.{Node}
 use Rattle.tree.specs.Node.{plusZero}
 use Rattle.tree.specs.Sound.{isCount}
-use Rattle.tree.specs.Tree.{nodeAt}
+use Rattle.tree.specs.Tree.{nodeAt, backOf, plantedOf}
+use Rattle.tree.specs.Refusals.{newCount}
+use Rattle.tree.specs.inner.Back.{isPassed}
 use Rattle.tree.specs.inner.Sound.{SoundTree}
 use Rattle.search.specs.declared.options.SearchOptions.{SearchOptions}
 use Rattle.search.specs.declared.select.Chosen.{Chosen}
@@ -31,7 +36,7 @@ use Rattle.search.specs.declared.grow.Grown.{Grown}
 use Rattle.search.specs.Options.{iterationsMost}
 use Rattle.search.specs.Select.{lnOf, weightsOf, selectOf, stateAt}
 use Rattle.search.specs.Iterate.{scoreIn, isWorth, storedOf, storeOf, lastStored, Turn, Goes, Stops}
-use Rattle.search.specs.Search.{Outcome}
+use Rattle.search.specs.Search.{Outcome, growFrom}
 use Rattle.search.specs.inner.Asked.{Asked}
 use Rattle.search.specs.inner.Links.{Links}
 use Rattle.search.specs.inner.Newest.{FairChildren}
@@ -106,10 +111,26 @@ pub record Storing (c : CraftContext) (s : CraftState) (nodes : List Node) (coun
 pub record Stores (c : CraftContext) (s : CraftState) (nodes : List Node) (count k : ℕ) (draws : List ℕ) (at stored : ℕ) (r : ℕ) (after : List Node)
     (index : List ℕ) : Type 0 where
   pub last : r ≡ lastStored count k stored
+  pub inside : r < count + stored
+  pub growing : Growing c after (count + stored)
   pub records : after ≡ storeOf c nodes count k s (sampledOf c s (nodeAt nodes k .unused) stored (drop at draws))
   pub links : Links after (count + stored) index
 
--- ---- an iteration, and all of them
+-- and after the score was propagated from there
+pub record Carried (c : CraftContext) (s : CraftState) (nodes : List Node) (count k : ℕ) (draws : List ℕ) (at stored : ℕ) (score : Float) (after : List Node)
+    (index : List ℕ) : Type 0 where
+  pub records : after
+      ≡ backOf (storeOf c nodes count k s (sampledOf c s (nodeAt nodes k .unused) stored (drop at draws))) (lastStored count k stored) 0 score
+  pub links : Links after (count + stored) index
+
+-- ---- an iteration
+
+-- after a plan: one that was refused leaves the count and the place
+abbrev pub stoppedBy : Plan → ℕ → ℕ → Turned
+stoppedBy p count at = record { checked = p .checked; count = count; at = at }
+
+abbrev pub goneBy : Plan → ℕ → Turned
+goneBy p count = record { checked = K.Passed; count = count + p .stored; at = p .at }
 
 abbrev pub turnedOf : ℕ → ℕ → Turn → Turned
 turnedOf count at (Goes g) = record { checked = K.Passed; count = g .count; at = g .at }
@@ -124,5 +145,31 @@ pub record Turns (nodes : List Node) (count at : ℕ) (turn : Turn) (r : Turned)
   pub records : after ≡ recordsAfter nodes turn
   pub links : Links after (r .count) index
 
+-- ---- the iterations
+
+-- before them: the tree that was planted
+pub record Started (c : CraftContext) (o : SearchOptions) (logs : List Float) (nodes : List Node) : Type 0 where
+  pub asked : Asked c o logs
+  pub before : List Node
+  pub some : 0 < length before
+  pub planted : nodes ≡ plantedOf before (movesOf c (startOf c) plain)
+
+abbrev pub noneGrown : Grown
+noneGrown = record { checked = K.Passed; iterations = 0; count = newCount; at = 0 }
+
+abbrev pub goingOf : Grown → SearchOptions → Bool
+goingOf grown o = isPassed (grown .checked) && ltb (grown .iterations) (o .iterations)
+
+abbrev pub grownBy : Grown → Turned → Grown
+grownBy grown t = record { checked = t .checked; iterations = cond (isPassed (t .checked)) (grown .iterations + 1) (grown .iterations); count = t .count; at = t .at }
+
 abbrev pub grownAnswer : Outcome → Grown
 grownAnswer z = record { checked = z .checked; iterations = z .iterations; count = z .growth .count; at = z .growth .at }
+
+-- what they come to
+abbrev pub outcomeFrom : CraftContext → SearchOptions → List Float → List ℕ → List Node → Outcome
+outcomeFrom c o logs draws nodes = growFrom c o logs draws (o .iterations) (record { nodes = nodes; count = newCount; at = 0 }) 0
+
+pub record GrowsTo (c : CraftContext) (o : SearchOptions) (logs : List Float) (draws : List ℕ) (nodes : List Node) (r : Grown) (after : List Node) : Type 0 where
+  pub answer : r ≡ grownAnswer (outcomeFrom c o logs draws nodes)
+  pub records : after ≡ outcomeFrom c o logs draws nodes .growth .nodes

@@ -29,10 +29,10 @@ use Rattle.tree.specs.Refusals.{newCount}
 use Rattle.tree.specs.Tree.{nodeAt, isSound, solutionOf}
 use Rattle.tree.specs.laws.Tree.{of-tree}
 use Rattle.search.specs.declared.options.SearchOptions.{SearchOptions}
-use Rattle.search.specs.declared.search.Progress.{Progress}
-use Rattle.search.specs.declared.search.Found.{Found}
-use Rattle.search.specs.declared.search.Searched.{Searched}
-use Rattle.search.specs.declared.search.Searched.the-variants as S
+use Rattle.search.specs.declared.entry.Progress.{Progress}
+use Rattle.search.specs.declared.entry.Found.{Found}
+use Rattle.search.specs.declared.entry.Searched.{Searched}
+use Rattle.search.specs.declared.entry.Searched.the-variants as S
 use Rattle.search.specs.Options.{areOptions, areLogs, searchTest}
 use Rattle.search.specs.Search.{Outcome, growOf, noProgress, progressOf, pathOf, foundOf, askedTests, settledBy, pathTests, Searches}
 use Rattle.search.specs.laws.Asked.{Asked, asked}

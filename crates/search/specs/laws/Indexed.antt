@@ -20,24 +20,8 @@ use Rattle.rates.specs.Best.{noBest}
 use Rattle.rates.specs.inner.Holds.{Holds, Asks}
 use Rattle.search.specs.inner.Links.{linked, lastAt, olderAt, lastLink, lastBelow, topOf, Links}
 use Rattle.search.specs.inner.Newest.{betterNode, betterChild, bestDown, FairChildren, Linked}
-use Rattle.search.specs.laws.Links.{last-child, down-skips, top-count}
+use Rattle.search.specs.laws.Links.{top-count, top-linked, top-some, last-child, down-skips}
 use Rattle.search.specs.laws.Newest.{down-start, down-each, down-child}
-
--- ---- the lesser of count and room
-
-module _ (count : ℕ) where
-  by-test : (P : ℕ → Type 0) → (count < linked → P count) → (linked ≤ count → P linked) → P (topOf count)
-  by-test P below past = go (ltb count linked) refl
-    where
-      go : (t : Bool) → ltb count linked ≡ t → P (cond t count linked)
-      go true e = below (ltb-true count linked e)
-      go false e = past (ltb-false count linked e)
-
-  top-linked : topOf count ≤ linked
-  top-linked = by-test (λ n. n ≤ linked) (λ l. omega arith) (λ l. le-refl linked)
-
-  top-some : 0 < count → 0 < topOf count
-  top-some some = by-test (λ n. 0 < n) (λ l. some) (λ l. omega arith)
 
 -- ---- past the index, record by record
 

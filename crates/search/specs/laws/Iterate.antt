@@ -10,7 +10,7 @@ use native.Mathlib.Omega.{arith}
 use lib.Dec.{eqb, leb}
 use lib.Ieee.{Float, ofInt, lt, le, eq}
 use lib.Ieee.Bits.{is-true}
-use lib.ListN.{length, take, drop}
+use lib.ListN.{length, take, drop, length-drop}
 use lib.Seq.{take-nil, take-take}
 use borrow.Author.Tests.{leb-true, le-leb, eqb-false}
 use Rattle.laws.specs.Floats.{one, minusOne}
@@ -71,7 +71,7 @@ stops-never : {x : Refusal} {next : Growth} → Stops x ≡ Goes next → ⊥
 stops-never e = let z : _≡_ {A = ℕ} 0 1 = cc in omega arith
 
 module _ (c : CraftContext) (o : SearchOptions) (logs : List Float) (draws : List ℕ) (g : Growth) where
-  abbrev storedBy : CraftResult → ℕ → ℕ
+  abbrev pub storedBy : CraftResult → ℕ → ℕ
   storedBy result end = storedOf (isWorth (o .«score_storage_threshold») (maxAt (g .nodes) 0) result) (end - g .at)
 
   -- the records before the score is propagated
@@ -99,6 +99,16 @@ module _ (c : CraftContext) (o : SearchOptions) (logs : List Float) (draws : Lis
           fits true f e = record { result = result; end = end; rolls = q; room = leb-true _ _ f; same = cc }
           fits false f e = absurd (stops-never e)
 
+-- ---- the place in the draws
+
+module _ (c : CraftContext) (o : SearchOptions) (logs : List Float) (draws : List ℕ) (g : Growth) where
+  pub rolled-place : {result : CraftResult} {end : ℕ} → rolledOf c o logs draws g ≡ L.Ended result end → g .at ≤ length draws → end ≤ length draws
+  rolled-place {result} {end} r h =
+      omega (arith, rolled c (selectedState c o logs draws g) (unusedOf c o logs draws g) (g .at) (drop (g .at) draws) result end r .most, length-drop (g .at) draws)
+
+  pub iterate-place : {next : Growth} → iterateOf c o logs draws g ≡ Goes next → g .at ≤ length draws → next .at ≤ length draws
+  iterate-place e h = let a = accepted c o logs draws g e in rw (a .same) (rolled-place (a .rolls) h)
+
 -- ---- THE theorem
 
 -- the records of a search, after so many iterations
@@ -120,7 +130,7 @@ module _ (c : CraftContext) (o : SearchOptions) (logs : List Float) (draws : Lis
   selected-inside = selected-below o logs (g .nodes) (g .count) (tree-falls (grows .growing .tree)) (grows .growing .tree .some)
 
   module _ {result : CraftResult} {end : ℕ} (r : rolledOf c o logs draws g ≡ L.Ended result end) where
-    rolls : Rolls c (selectedState c o logs draws g) (unusedOf c o logs draws g) (g .at) (drop (g .at) draws) result end
+    pub rolls : Rolls c (selectedState c o logs draws g) (unusedOf c o logs draws g) (g .at) (drop (g .at) draws) result end
     rolls = rolled c (selectedState c o logs draws g) (unusedOf c o logs draws g) (g .at) (drop (g .at) draws) result end r
 
     -- every score that is propagated is from -1 to 1

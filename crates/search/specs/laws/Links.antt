@@ -5,6 +5,7 @@ use mathlib.Core.Bool.{Bool, true, false, cond}
 use mathlib.Core.List.{List}
 use mathlib.Core.Logic.{⊎-elim}
 use Prim.Native.Nat.{ℕ, zero, suc, _+_, _*_, _≤_, _<_}
+use native.Mathlib.Nat.{le-refl}
 use native.Mathlib.Omega.{arith}
 use lib.Dec.{eqb, ltb}
 use lib.ListN.{length, set, replicate, length-set, length-replicate, getD-replicate}
@@ -20,6 +21,28 @@ use Rattle.search.specs.inner.Links.{linked, lastAt, olderAt, lastBelow,
 use Rattle.search.specs.Iterate.{belowOf}
 use Rattle.search.specs.laws.Below.{below-new, below-alike}
 use Rattle.search.specs.laws.Newest.{down-child}
+
+-- ---- the lesser of count and room
+
+module _ (count : ℕ) where
+  by-test : (P : ℕ → Type 0) → (count < linked → P count) → (linked ≤ count → P linked) → P (topOf count)
+  by-test P below past = go (ltb count linked) refl
+    where
+      go : (t : Bool) → ltb count linked ≡ t → P (cond t count linked)
+      go true e = below (ltb-true count linked e)
+      go false e = past (ltb-false count linked e)
+
+  pub top-count : topOf count ≤ count
+  top-count = by-test (λ n. n ≤ count) (λ l. le-refl count) (λ l. l)
+
+  pub top-linked : topOf count ≤ linked
+  top-linked = by-test (λ n. n ≤ linked) (λ l. omega arith) (λ l. le-refl linked)
+
+  pub top-some : 0 < count → 0 < topOf count
+  top-some some = by-test (λ n. 0 < n) (λ l. some) (λ l. omega arith)
+
+  top-is : count ≤ linked → topOf count ≡ count
+  top-is h = by-test (λ n. n ≡ count) (λ l. refl) (λ l. omega arith)
 
 -- ---- the last child among the first t records
 
@@ -73,13 +96,6 @@ links-none nodes n e =
       older = λ k some h. absurd (omega arith);
     }
 
-pub top-count : (count : ℕ) → topOf count ≤ count
-top-count count = go (ltb count linked) refl
-  where
-    go : (t : Bool) → ltb count linked ≡ t → cond t count linked ≤ count
-    go true e = omega arith
-    go false e = ltb-false count linked e
-
 -- where parents stay
 pub links-alike : (nodes others : List Node) (count : ℕ) (links : List ℕ) → ((k : ℕ) → k < count → nodeAt others k .parent ≡ nodeAt nodes k .parent)
     → Links nodes count links → Links others count links
@@ -97,13 +113,6 @@ module _ (nodes others : List Node) (count parent : ℕ) (links : List ℕ) (sam
     (new : nodeAt others count .parent ≡ parent) (inside : parent < count) (l : Links nodes count links) where
   -- within the room
   module _ (fits : count < linked) where
-    top-is : (n : ℕ) → n ≤ linked → topOf n ≡ n
-    top-is n h = go (ltb n linked) refl
-      where
-        go : (t : Bool) → ltb n linked ≡ t → cond t n linked ≡ n
-        go true e = refl
-        go false e = omega (arith, ltb-false n linked e)
-
     abbrev first : List ℕ
     first = set links (2 * count + 1) (lastAt links parent)
 

@@ -9,13 +9,13 @@ use Prim.Native.Nat.{ℕ, zero, suc, _+_, _≤_, _<_}
 use native.Mathlib.Nat.{eq-or-lt-of-le, le-refl}
 use native.Mathlib.Numerals.{add-one}
 use native.Mathlib.Omega.{arith}
-use lib.Dec.{T, leb, ltb}
+use lib.Dec.{T, leb}
 use lib.Ieee.{Float, lt, le}
 use lib.Ieee.Scale.{finite}
-use borrow.Author.Tests.{ltb-true, lt-ltb, leb-true, leb-false, ne-eqb, not-false}
+use borrow.Author.Tests.{lt-ltb, leb-true, leb-false, ne-eqb, not-false}
 use Rattle.laws.specs.Lists.{elem}
 use Rattle.laws.specs.laws.Order.{le-same, lt-le, lt-after, lt-or-ge}
-use Rattle.laws.specs.laws.Tests.{true-false, both, and-both, either}
+use Rattle.laws.specs.laws.Tests.{true-false, and-both, either}
 use Rattle.rates.specs.declared.Best.{Best}
 use Rattle.rates.specs.declared.Weights.{Weights}
 use Rattle.rates.specs.Best.{noBest, rateOf, childOf, betterOf}
@@ -33,7 +33,7 @@ use Rattle.search.specs.Select.{lnOf, weightsOf, rateAt}
 use Rattle.search.specs.inner.Grown.{Visited}
 use Rattle.search.specs.inner.Newest.{betterNode, betterChild, bestDown}
 use Rattle.search.specs.laws.Asked.{Asked}
-use Rattle.search.specs.laws.Descend.{picked-child}
+use Rattle.search.specs.laws.Descend.{child-listed, picked-child}
 use Rattle.search.specs.laws.Rated.{child-finite}
 
 module _ (weights : Weights) (nodes : List Node) (parent : ℕ) where
@@ -52,11 +52,13 @@ module _ (weights : Weights) (nodes : List Node) (parent : ℕ) where
   unfolding bestDown
   down-start best = refl
 
-  pub down-each : (k : ℕ) (best : Best) → bestDown weights nodes parent (k + 1) best ≡ bestDown weights nodes parent k (betterChild best k (nodeAt nodes k) parent weights)
+  pub down-each : (k : ℕ) (best : Best)
+      → bestDown weights nodes parent (k + 1) best ≡ bestDown weights nodes parent k (betterChild best k (nodeAt nodes k) parent weights)
   unfolding bestDown
   down-each k best = rw add-one
 
-  pub down-child : (k : ℕ) (best : Best) → Child k → bestDown weights nodes parent (k + 1) best ≡ bestDown weights nodes parent k (betterNode best k (nodeAt nodes k) weights)
+  pub down-child : (k : ℕ) (best : Best) → Child k
+      → bestDown weights nodes parent (k + 1) best ≡ bestDown weights nodes parent k (betterNode best k (nodeAt nodes k) weights)
   down-child k best is = down-each k best ∙ ap (λ (t : Bool). bestDown weights nodes parent k (cond t (betterNode best k (nodeAt nodes k) weights) best)) is
 
   module _ (count : ℕ) where
@@ -144,7 +146,8 @@ module _ (weights : Weights) (nodes : List Node) (parent : ℕ) where
           better : Found (suc k) best → Found k (betterNode best k (nodeAt nodes k) weights)
           unfolding betterOf
           better (inl n) = rw (n .none) (inr (first n))
-          better (inr l) = rw (ne-eqb (best .at) 0 (λ e. omega (arith, l .from))) (go (lt (best .rate) (rate k)) (ap (λ (x : Float). lt x (rate k)) (sym (l .rate-is))))
+          better (inr l) =
+              rw (ne-eqb (best .at) 0 (λ e. omega (arith, l .from))) (go (lt (best .rate) (rate k)) (ap (λ (x : Float). lt x (rate k)) (sym (l .rate-is))))
             where
               go : (t : Bool) → lt (rate (best .at)) (rate k) ≡ t → Found k (cond t (taken k) best)
               go true e = inr (greater l (holds e))
@@ -164,9 +167,7 @@ module _ (weights : Weights) (nodes : List Node) (parent : ℕ) where
       -- ---- THE theorem
 
       listed : (j : ℕ) → elem (childrenOf count nodes parent) j ≡ true → (j < count) × Child j
-      listed j e =
-          let is = both (ltb j count) (isChild j (nodeAt nodes j) parent) (sym (children-each nodes parent count j) ∙ e) in
-          (ltb-true j count (is .0), is .1)
+      listed = child-listed nodes count parent
 
       abbrev walked : Best
       walked = bestDown weights nodes parent count noBest
@@ -211,7 +212,8 @@ module _ (c : CraftContext) (o : SearchOptions) (logs : List Float) (asked : Ask
     (visited : Visited nodes count done) (few : done ≤ iterationsMost) (parent : ℕ) where
   rated-finite : (k : ℕ) → k < count → isChild k (nodeAt nodes k) parent ≡ true → T (finite (rateAt o logs nodes parent k))
   rated-finite k h is =
-      rw (child-parent k (nodeAt nodes k) parent is) at (child-finite nodes count done tree visited few k (child-some k (nodeAt nodes k) parent is) h c o logs asked)
+      rw (child-parent k (nodeAt nodes k) parent is) at
+      (child-finite nodes count done tree visited few k (child-some k (nodeAt nodes k) parent is) h c o logs asked)
 
   pub rated-none : bestBy (rateAt o logs nodes parent) count nodes parent ≡ 0 → (k : ℕ) → k < count → isChild k (nodeAt nodes k) parent ≡ true → ⊥
   rated-none = picked-none (weightsOf o (lnOf logs (nodeAt nodes parent .visits))) nodes parent count rated-finite

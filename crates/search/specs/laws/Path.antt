@@ -8,9 +8,13 @@ use native.Mathlib.Nat.{le-refl, le-antisymm}
 use native.Mathlib.Omega.{arith}
 use lib.ListN.{length}
 use lib.Seq.{take-length}
+use borrow.Author.Tests.{lt-ltb, leb-true}
 use Rattle.laws.specs.Bits.{has}
+use Rattle.laws.specs.laws.Tests.{and-both}
+use Rattle.action.specs.Known.{actions, allKnown, knownFront}
 use Rattle.action.specs.Table.{attributesOf}
 use Rattle.action.specs.laws.Bounds.{rows-bounded}
+use Rattle.action.specs.laws.Known.{all-front}
 use Rattle.craft_context.specs.declared.context.CraftContext.{CraftContext}
 use Rattle.craft_context.specs.Limits.{ContextIn}
 use Rattle.craft_state.specs.declared.state.CraftState.{CraftState}
@@ -43,6 +47,11 @@ unfolding EachLegal
 leads-known c s [] l = tt
 leads-known c s (n ∷ rest) l = (legal-known attributesOf c s plain n (l .0), leads-known c (executeOf c s n) rest (l .1))
 
+-- as a test of the whole list
+all-true : (list : List ℕ) → AllKnown list → allKnown list ≡ true
+all-true [] k = refl
+all-true (n ∷ rest) k = and-both (lt-ltb n actions (k .0)) (all-true rest (k .1))
+
 module _ (c : CraftContext) (nodes : List Node) (count : ℕ) (growing : Growing c nodes count) where
   -- one record down
   leads-on : (k b : ℕ) → 0 < b → b < count → nodeAt nodes b .parent ≡ k → (path : List ℕ) (end : CraftState)
@@ -73,6 +82,12 @@ module _ (c : CraftContext) (nodes : List Node) (count : ℕ) (growing : Growing
 
   path-leads : Leads c (startOf c) (solutionOf nodes count) (stateAt c nodes (endOf nodes count))
   path-leads = rw state-root at (leads-down count 0)
+
+  -- its actions are known
+  pub path-known : length (solutionOf nodes count) ≤ knownFront (solutionOf nodes count)
+  path-known =
+      let path : List ℕ = solutionOf nodes count in
+      leb-true (length path) (knownFront path) (sym (all-front path) ∙ all-true path (leads-known c (startOf c) path (path-leads .0)))
 
   module _ (context : ContextIn c) (byte : c .«step_max» ≤ stepMost) where
     abbrev path : List ℕ

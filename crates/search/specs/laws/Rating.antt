@@ -50,7 +50,8 @@ module _ {o : SearchOptions} {logs : List Float} {nodes : List Node} {count : �
   weights = weightsOf o (lnOf logs (nodeAt nodes k .visits))
 
   -- where no moves are left
-  pub next-best : {best : Best} → best ≡ bestDown weights nodes k count noBest → eqb (nodeAt nodes k .unused) 0 ≡ true → best .at ≡ nextOf o logs nodes count k
+  pub next-best : {best : Best} → best ≡ bestDown weights nodes k count noBest → eqb (nodeAt nodes k .unused) 0 ≡ true
+      → best .at ≡ nextOf o logs nodes count k
   next-best e none =
       ap (λ (b : Best). b .at) e ∙ down-best weights nodes k count (λ j h is. ucb1-finite (r .fair j h is))
       ∙ sym (ap (λ (t : Bool). cond t (bestBy (rateAt o logs nodes k) count nodes k) 0) none)

@@ -26,7 +26,8 @@ pub record At (c : CraftContext) (o : SearchOptions) (logs : List Float) (nodes 
   pub next-is : next ≡ nextOf o logs nodes count k
   pub end : selectIn count o logs nodes count k ≡ selectOf o logs nodes count
 
-module _ {c : CraftContext} {o : SearchOptions} {logs : List Float} {nodes : List Node} {count : ℕ} {links : List ℕ} (r : Ready c o logs nodes count links) where
+module _ {c : CraftContext} {o : SearchOptions} {logs : List Float} {nodes : List Node} {count : ℕ} {links : List ℕ}
+    (r : Ready c o logs nodes count links) where
   falls : Falls nodes count
   falls = tree-falls (r .growing .tree)
 

@@ -7,6 +7,7 @@ use Prim.Native.Nat.{ℕ, suc, _+_, _-_, _≤_, _<_}
 use native.Mathlib.Nat.{add-zero}
 use native.Mathlib.Numerals.{add-one}
 use native.Mathlib.Omega.{arith}
+use lib.Ieee.{Float}
 use lib.ListN.{length, getD, drop}
 use Rattle.laws.specs.Bits.{has}
 use Rattle.laws.specs.laws.Lists.{drop-at}
@@ -25,16 +26,20 @@ use Rattle.moves.specs.Moves.{movesOf}
 use Rattle.moves.specs.laws.Moves.{legal-playable, legal-keeps}
 use Rattle.rollout.specs.Rollout.{sampledOf, strictMoves}
 use Rattle.tree.specs.declared.node.Node.{Node}
-use Rattle.tree.specs.Tree.{nodeAt}
+use Rattle.tree.specs.Tree.{nodeAt, backOf}
+use Rattle.tree.specs.inner.Back.{Reaches}
+use Rattle.tree.specs.laws.Tree.{tree-falls}
+use Rattle.tree.specs.laws.Upward.{root-reached}
 use Rattle.search.specs.Select.{stateAt}
 use Rattle.search.specs.Iterate.{belowOf, storeOf, lastStored}
 use Rattle.search.specs.inner.Grown.{Growing}
 use Rattle.search.specs.inner.Links.{linkOf}
-use Rattle.search.specs.inner.Ready.{Drawable, Storing, Stores}
+use Rattle.search.specs.inner.Ready.{Drawable, Storing, Stores, Carried}
 use Rattle.search.specs.laws.Below.{below-length, below-new, below-state, below-growing}
 use Rattle.search.specs.laws.Legal.{unused-set, unused-known, unused-plain}
 use Rattle.search.specs.laws.Links.{links-below}
 use Rattle.search.specs.laws.Stored.{last-is}
+use Rattle.search.specs.laws.Touched.{touch-links}
 
 -- ---- the first draw
 
@@ -74,7 +79,7 @@ module _ {c : CraftContext} {s : CraftState} {nodes : List Node} {count k : ℕ}
   named : has unused action ≡ true
   named = nth-named unused draw store-low .member .is
 
-  pub store-known : action < actions
+  store-known : action < actions
   store-known = unused-known c nodes count (st .growing) k (st .inside) action named
 
   legal : has (movesOf c s plain) action ≡ true
@@ -102,7 +107,7 @@ module _ {c : CraftContext} {s : CraftState} {nodes : List Node} {count k : ℕ}
       subst (λ (s : CraftState). executeOf c s action ≡ stateAt c (belowOf nodes count k action (strictMoves c (executeOf c s action))) count) (sym (st .state))
       (sym (below-state c nodes count k action (st .growing) (st .inside) store-room named))
 
-  pub store-next : Storing c next after (count + 1) count (linkOf links k count) draws (at + 1) n
+  store-next : Storing c next after (count + 1) count (linkOf links k count) draws (at + 1) n
   store-next =
       record {
         growing = growing-next;
@@ -116,7 +121,7 @@ module _ {c : CraftContext} {s : CraftState} {nodes : List Node} {count k : ℕ}
       }
 
   -- what the whole path leaves, the rest leaves
-  pub store-rest : storeOf c nodes count k s (sampledOf c s unused (suc n) (drop at draws))
+  store-rest : storeOf c nodes count k s (sampledOf c s unused (suc n) (drop at draws))
       ≡ storeOf c after (count + 1) count next (sampledOf c next (nodeAt after count .unused) n (drop (at + 1) draws))
   unfolding storeOf sampledOf
   store-rest = rw (drop-at draws at store-draw, new-unused, add-one count)
@@ -170,6 +175,23 @@ module _ {c : CraftContext} {s : CraftState} {nodes : List Node} {count k : ℕ}
         let none : stored - i ≡ 0 = omega arith in
         record {
           last = rw (← all) (p .last);
+          inside = rw (← all) (p .storing .inside);
+          growing = rw (← all) (p .storing .growing);
           records = sym (p .rest ∙ rw none);
           links = rw (← all) (p .storing .index);
         }
+
+-- ---- and the score propagated from its end
+
+module _ {c : CraftContext} {s : CraftState} {nodes : List Node} {count k : ℕ} {draws : List ℕ} {at stored end : ℕ} {path : List Node} {index : List ℕ}
+    (st : Stores c s nodes count k draws at stored end path index) where
+  pub stored-reaches : Reaches path end 0
+  stored-reaches = root-reached path (count + stored) (tree-falls (st .growing .tree)) end (st .inside) (st .growing .tree .room)
+
+  pub carried : {score : Float} {after : List Node} → after ≡ backOf path end 0 score → Carried c s nodes count k draws at stored score after index
+  carried {score} e =
+      rw e
+      (record {
+        records = rw (← st .last, ← st .records);
+        links = touch-links path (count + stored) end score (st .growing .tree) (st .inside) index (st .links);
+      })

@@ -22,7 +22,8 @@ use Rattle.search.specs.inner.Ready.{Storing}
 use Rattle.search.specs.laws.Storing.{store-draw, store-room, store-set, store-low, store-playable, store-craft, Part, part-first, part-on, part-more, part-all}
 use Rattle.walks.proofs.Walking.{_≡_, refl, sym, ap, _∙_, subst, ℕ, _+_, _-_, _<_, _^_, arith, List, [], _∷_, ltb, ltb-true, ltb-false, lit<, givenOf, tables, _$_, !, lit, of-opd, bin, no-more, cited, usize′, has, env, opd, part, _&_, sets, sets-last, lands-in, keeps, returns, whiles, reborrows, then, calls-plain, of-shr, over, slices-proved, lend-mut, lend-shr, pass-shr, calls-slices}
 use Rattle.tree.proofs.Types.{node′, node-at′}
-use Rattle.search.proofs.TypesStore.{context′, state′, sampled′, stepped′, strict-moves′, insert-below′, store-path′}
+use Rattle.search.proofs.TypesSelect.{context′, state′, stepped′}
+use Rattle.search.proofs.TypesStore.{sampled′, strict-moves′, insert-below′, store-path′}
 use Rattle.tree.proofs.node_at.Symbol as node-at
 use Rattle.tree.proofs.node_at.Met as node-at-thm
 use Rattle.search.proofs.store.sampled.Symbol as sampled
