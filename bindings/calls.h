@@ -4,7 +4,8 @@
 
 enum function {
     REPLAY, REPLAY_TEXT, PRINT, READ_LIST, WRITE_LIST, MACRO_TIME,
-    TREE_NEW, TREE_INSERT, TREE_CHILDREN, TREE_BACKPROPAGATE, TREE_SOLUTION
+    TREE_NEW, TREE_INSERT, TREE_CHILDREN, TREE_BACKPROPAGATE, TREE_SOLUTION,
+    SEARCH
 };
 
 enum { FIELDS = 15 };
@@ -13,7 +14,14 @@ enum { FIELDS = 15 };
  * last node. Its other numbers stand at these places of the context; NODE is also a parent or a start, SCORE is bits. */
 enum { COUNT, NODE, TARGET, ACTION, SCORE, UNUSED };
 
-/* Only REPLAY has a mode, and it and the trees a context. The lengths are in bytes. */
+/* Only REPLAY has a mode, and it, the trees and the search a context. The lengths are in bytes. */
 struct call {
     uint64_t function, strict, context[FIELDS], input, room;
+};
+
+/* Of a search, what comes directly after the call: its options, floats by their bits, and the lengths of the logarithms
+ * and the draws. These two stand between its input, the records, and the room. Its answer is a crafty_found, the records
+ * and the room. */
+struct search {
+    uint64_t iterations, threshold, weighting, exploration, logs, draws;
 };

@@ -49,14 +49,19 @@ static crafty_answer answer(const struct call *call, const uint8_t *input, void 
     abort();
 }
 
+static float float_of(uint64_t bits)
+{
+    uint32_t low = bits;
+    float number;
+    memcpy(&number, &low, sizeof number);
+    return number;
+}
+
 /* Of a tree; only its solution has a node. */
 static crafty_solution tree_answer(const struct call *call, crafty_node *nodes, void *room)
 {
     const uint64_t *c = call->context;
     size_t length = call->input / sizeof *nodes;
-    uint32_t bits = c[SCORE];
-    float score;
-    memcpy(&score, &bits, sizeof score);
     crafty_answer said = { 0, 0 };
     switch (call->function) {
     case TREE_NEW: said = crafty_tree_new(nodes, length, c[UNUSED]); break;
@@ -67,12 +72,22 @@ static crafty_solution tree_answer(const struct call *call, crafty_node *nodes, 
         said = crafty_tree_children(nodes, length, room, call->room / sizeof(size_t), c[COUNT], c[NODE]);
         break;
     case TREE_BACKPROPAGATE:
-        said = crafty_tree_backpropagate(nodes, length, c[COUNT], c[NODE], c[TARGET], score);
+        said = crafty_tree_backpropagate(nodes, length, c[COUNT], c[NODE], c[TARGET], float_of(c[SCORE]));
         break;
     case TREE_SOLUTION: return crafty_tree_solution(nodes, length, room, call->room, c[COUNT]);
     default: fail("no such function");
     }
     return (crafty_solution){ said.number, said.value, 0 };
+}
+
+static crafty_found found(
+    const struct call *call, const struct search *s, crafty_node *nodes, const float *logs, const uint8_t *draws, uint8_t *room)
+{
+    const uint64_t *c = call->context;
+    return crafty_search(
+        nodes, call->input / sizeof *nodes, logs, s->logs / sizeof *logs, draws, s->draws, room, call->room,
+        c[0], c[1], c[2], c[3], c[4], c[5], c[6], c[7], c[8], c[9], c[10], c[11], c[12], c[13], c[14],
+        s->iterations, float_of(s->threshold), float_of(s->weighting), float_of(s->exploration));
 }
 
 static void check_margin(const uint8_t *margin)
@@ -98,22 +113,38 @@ static void give_back(uint8_t *room, size_t bytes)
     free(room - MARGIN);
 }
 
+/* What may only be read, and a copy of it. */
+struct input {
+    uint8_t *lent, *given;
+    size_t bytes;
+};
+
+static struct input get_input(size_t bytes)
+{
+    struct input input = { take(bytes), take(bytes), bytes };
+    get(input.lent, bytes);
+    memcpy(input.given, input.lent, bytes);
+    return input;
+}
+
+static void end_input(struct input input)
+{
+    if (memcmp(input.given, input.lent, input.bytes) != 0) fail("the input was written");
+    free(input.lent);
+    free(input.given);
+}
+
 static void serve(const struct call *call)
 {
-    uint8_t *input = take(call->input);
-    uint8_t *given = take(call->input);
-    get(input, call->input);
-    memcpy(given, input, call->input);
+    struct input input = get_input(call->input);
     uint8_t *room = lend(call->room);
 
-    crafty_answer said = answer(call, input, room);
-    if (memcmp(given, input, call->input) != 0) fail("the input was written");
+    crafty_answer said = answer(call, input.lent, room);
 
+    end_input(input);
     uint64_t numbers[] = { said.number, said.value };
     put(numbers, sizeof numbers);
     give_back(room, call->room);
-    free(input);
-    free(given);
 }
 
 static void serve_tree(const struct call *call)
@@ -129,12 +160,31 @@ static void serve_tree(const struct call *call)
     give_back(room, call->room);
 }
 
+static void serve_search(const struct call *call)
+{
+    struct search search;
+    get(&search, sizeof search);
+    uint8_t *records = lend(call->input);
+    struct input logs = get_input(search.logs);
+    struct input draws = get_input(search.draws);
+    uint8_t *room = lend(call->room);
+
+    crafty_found said = found(call, &search, (crafty_node *)records, (const float *)logs.lent, draws.lent, room);
+
+    end_input(logs);
+    end_input(draws);
+    put(&said, sizeof said);
+    give_back(records, call->input);
+    give_back(room, call->room);
+}
+
 int main(void)
 {
     struct call call;
     while (fread(&call, sizeof call, 1, stdin) == 1) {
         if (call.function < TREE_NEW) serve(&call);
-        else serve_tree(&call);
+        else if (call.function < SEARCH) serve_tree(&call);
+        else serve_search(&call);
         if (fflush(stdout) != 0) fail("no one reads the answers");
     }
     return 0;

@@ -56,6 +56,13 @@ static void call_host(const struct call *call, const void *input, const void *ro
     if (fflush(to_host) != 0) fail("the host does not read");
 }
 
+static uint32_t bits_of(float number)
+{
+    uint32_t bits;
+    memcpy(&bits, &number, sizeof bits);
+    return bits;
+}
+
 static crafty_answer ask(struct call call, const uint8_t *input, void *room)
 {
     uint64_t numbers[2];
@@ -165,11 +172,9 @@ crafty_answer crafty_tree_insert(
 crafty_answer crafty_tree_backpropagate(
     crafty_node *nodes, size_t nodes_length, size_t count, size_t start, size_t target, float score)
 {
-    uint32_t bits;
-    memcpy(&bits, &score, sizeof bits);
     struct call call = {
         .function = TREE_BACKPROPAGATE,
-        .context = { [COUNT] = count, [NODE] = start, [TARGET] = target, [SCORE] = bits },
+        .context = { [COUNT] = count, [NODE] = start, [TARGET] = target, [SCORE] = bits_of(score) },
     };
     return change(call, nodes, nodes_length);
 }
@@ -191,4 +196,43 @@ crafty_solution crafty_tree_solution(
 {
     struct call call = { .function = TREE_SOLUTION, .context = { [COUNT] = count }, .room = out_length };
     return look(call, nodes, nodes_length, out);
+}
+
+/* ---- the search. */
+
+crafty_found crafty_search(
+    crafty_node *nodes, size_t nodes_length, const float *logs, size_t logs_length, const uint8_t *draws,
+    size_t draws_length, uint8_t *out, size_t out_length, uint32_t player_job_level, uint32_t recipe_job_level,
+    uint32_t base_progress_factor, uint32_t base_quality_factor, uint32_t step_max, uint32_t progress_target,
+    uint32_t starting_quality, uint32_t quality_target, uint32_t durability_max, uint32_t cp_max, uint32_t is_expert,
+    uint32_t action_pool, uint32_t player_is_specialist, uint32_t use_manipulation, uint32_t use_delineation,
+    uint32_t iterations, float score_storage_threshold, float max_score_weighting_constant, float exploration_constant)
+{
+    struct call call = {
+        SEARCH,
+        0,
+        { player_job_level, recipe_job_level, base_progress_factor, base_quality_factor, step_max, progress_target,
+          starting_quality, quality_target, durability_max, cp_max, is_expert, action_pool, player_is_specialist,
+          use_manipulation, use_delineation },
+        nodes_length * sizeof *nodes,
+        out_length,
+    };
+    struct search search = {
+        iterations, bits_of(score_storage_threshold), bits_of(max_score_weighting_constant),
+        bits_of(exploration_constant), logs_length * sizeof *logs, draws_length,
+    };
+    if (to_host == NULL) start();
+    put(&call, sizeof call);
+    put(&search, sizeof search);
+    put(nodes, call.input);
+    put(logs, search.logs);
+    put(draws, search.draws);
+    put(out, call.room);
+    if (fflush(to_host) != 0) fail("the host does not read");
+
+    crafty_found said;
+    get(&said, sizeof said);
+    get(nodes, call.input);
+    get(out, call.room);
+    return said;
 }

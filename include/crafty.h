@@ -14,7 +14,8 @@
  * where it is loaded.
  *
  * What the host gets: every function is proved to answer what crates/crafty_c/specs says, for every input. A refusal
- * leaves all that was lent as it was; a success writes as much as it says, and no byte, number or record further. */
+ * leaves all that was lent as it was, but for the tree of crafty_search, as said there; a success writes as much as it
+ * says, and no byte, number or record further. */
 #ifndef CRAFTY_H
 #define CRAFTY_H
 
@@ -35,7 +36,7 @@ typedef struct crafty_answer {
 } crafty_answer;
 
 /* The refusals that these functions have. The lowest number comes first, except that 13 and then 12 precede all, and 6
- * comes last. */
+ * comes last; the order of crafty_search is said there. */
 enum {
     CRAFTY_SUCCESS = 0,
     CRAFTY_OUTSIDE_LIMITS = 1, /* a number of the context is outside its limit or does not fit its field; a set has bit 31 */
@@ -48,7 +49,10 @@ enum {
     CRAFTY_BAD_SCORE = 10,     /* a score is a NaN or outside -1 to 1 */
     CRAFTY_VISITS_FULL = 11,   /* a record on the way has 16,777,216 visits */
     CRAFTY_MALFORMED_LINE = 12, /* the first line is not fifteen numbers, parted by single spaces */
-    CRAFTY_TOO_LONG = 13       /* an input, or a list to write as text or to time, is above 65,536 bytes */
+    CRAFTY_TOO_LONG = 13,      /* an input, or a list to write as text or to time, is above 65,536 bytes */
+    CRAFTY_NO_DRAW = 19,       /* a draw is wanted, and none is left */
+    CRAFTY_DRAW_TOO_HIGH = 20, /* a draw is not below the number of moves that it is to pick from */
+    CRAFTY_BAD_SEARCH = 21     /* an option of a search or a logarithm is outside its limits, or step_max is 0 */
 };
 
 /* How a replay ended. */
@@ -137,7 +141,8 @@ crafty_answer crafty_macro_time(const uint8_t *list, size_t list_length);
  *   score_sum        from -visits to visits
  *   max_score        from +0 to 1, and not minus zero
  *   unused           the moves not drawn from the record yet, bit n for action n: bit 31 is clear, and no more is asked.
- *                    They are the caller's to keep: the functions below write those of a new record alone
+ *                    They are the caller's to keep: the functions on trees write those of a new record alone, and
+ *                    crafty_search, which draws, those of its tree
  * None of the three floats is a NaN. What takes a sound tree leaves a sound one. */
 typedef struct crafty_node {
     size_t parent;
@@ -178,6 +183,81 @@ crafty_answer crafty_tree_children(
  * actions. Value: how many. Refused by 7, 6. */
 crafty_solution crafty_tree_solution(
     const crafty_node *nodes, size_t nodes_length, uint8_t *out, size_t out_length, size_t count);
+
+/* A state, by the numbers that crafty_replay writes from CRAFTY_STEP to CRAFTY_LAST_ACTION. */
+typedef struct crafty_state {
+    uint32_t step;
+    uint32_t progress;
+    uint32_t quality;
+    uint32_t durability;
+    uint32_t cp;
+    uint32_t combo;
+    uint32_t quick_innovation;
+    uint32_t trained_perfection;
+    uint32_t inner_quiet;
+    uint32_t waste_not;
+    uint32_t waste_not_ii;
+    uint32_t manipulation;
+    uint32_t great_strides;
+    uint32_t innovation;
+    uint32_t veneration;
+    uint32_t muscle_memory;
+    uint32_t last_action;
+} crafty_state;
+
+/* The answer of crafty_search. */
+typedef struct crafty_found {
+    uint32_t number;     /* 0 for success, or that of a refusal */
+    uint32_t iterations; /* how many were done */
+    size_t value;        /* with CRAFTY_NO_ROOM what is needed, and else 0 */
+    size_t records;      /* how many the tree has after them: its count */
+    size_t draws;        /* how many they used, from the first on */
+    size_t path;         /* how many actions were written; of a refusal 0 */
+    size_t node;         /* the last node; of a refusal 0 */
+    crafty_state state;  /* the state there; of a refusal the craft's start, and with CRAFTY_OUTSIDE_LIMITS all 0 */
+} crafty_found;
+
+/* Searches a craft for a good list, on chance and logarithms that the host lends, so that the same call gives the same
+ * answer. It plants a new tree in the records, grows it by so many iterations, and writes the actions of its solution,
+ * as crafty_tree_solution does. A plain replay executes them all.
+ *   logs         number v - 1 is the logarithm of v visits: 4,096 of them, each from 0 to 17. More are not read
+ *   draws        a byte n picks, of the moves that are left, the one with n of them above it: 0 is the highest. It is
+ *                below their number. An iteration uses at most step_max of them, and what is left over is not read
+ *   out          the actions, at most step_max
+ *   iterations   at most 4,096. Each stores one record or none, or its whole path: one record for each draw
+ *   score_storage_threshold        from this score on the path of a finished rollout is stored, if it is also as good
+ *                                  as all before it: 0 keeps each such one, 1 keeps none. Any number, but no NaN
+ *   max_score_weighting_constant   what a record's greatest score counts beside its average, from 0 to 1; usually 0.1
+ *   exploration_constant           from 0 to 16; usually 1.5
+ * step_max is at least 1. Minus zero counts as 0.
+ * Refused by 1, 21 and 6 (1 record is needed), which write nothing. Then an iteration is refused by 19, 20, and 6 where
+ * the records don't suffice for all that it stores (the count that would do is needed): it stores nothing and its draws
+ * are not used, but those before it stand. Last by 6 where the path has no room (its length is needed): all iterations
+ * stand. A refusal writes no path. */
+crafty_found crafty_search(
+    crafty_node *nodes, size_t nodes_length,
+    const float *logs, size_t logs_length,
+    const uint8_t *draws, size_t draws_length,
+    uint8_t *out, size_t out_length,
+    uint32_t player_job_level,
+    uint32_t recipe_job_level,
+    uint32_t base_progress_factor,
+    uint32_t base_quality_factor,
+    uint32_t step_max,
+    uint32_t progress_target,
+    uint32_t starting_quality,
+    uint32_t quality_target,
+    uint32_t durability_max,
+    uint32_t cp_max,
+    uint32_t is_expert,
+    uint32_t action_pool,
+    uint32_t player_is_specialist,
+    uint32_t use_manipulation,
+    uint32_t use_delineation,
+    uint32_t iterations,
+    float score_storage_threshold,
+    float max_score_weighting_constant,
+    float exploration_constant);
 
 #ifdef __cplusplus
 }

@@ -24,7 +24,7 @@ impl Craft {
         match self {
             Craft::Lasting => vec![lasting(MOST)],
             Craft::FewPoints => vec![lasting(FEW_POINTS)],
-            Craft::Players => [60, 70, 80].map(players).to_vec(),
+            Craft::Players => [60, 70, 80].map(|durability| players(durability, 50)).to_vec(),
         }
     }
 
@@ -44,8 +44,17 @@ fn lasting(points: u32) -> CraftContext {
     CraftContext::new(&Player::new(100, 1_000, 1_000, points), &recipe, options(255))
 }
 
-fn players(durability: i8) -> CraftContext {
-    CraftContext::new(&Player::new(100, 4_800, 4_500, 580), &recipe(durability), options(50))
+/// A player's craft to search, by a name: the usual one, a shorter one, and one that is soon worn out.
+pub fn searched() -> [(&'static str, CraftContext); 3] {
+    [
+        ("25 steps", players(70, 25)),
+        ("15 steps", players(70, 15)),
+        ("durability 40", players(40, 25)),
+    ]
+}
+
+fn players(durability: i8, max_steps: u8) -> CraftContext {
+    CraftContext::new(&Player::new(100, 4_800, 4_500, 580), &recipe(durability), options(max_steps))
 }
 
 fn recipe(durability: i8) -> Recipe {

@@ -7,6 +7,7 @@ mod crafts;
 mod lists;
 mod measure;
 mod replays;
+mod searches;
 mod texts;
 mod trees;
 
@@ -18,6 +19,8 @@ const ROUNDS: usize = 25;
 const MUST_MEET_GOALS: &str = "--goals";
 /// The most that a solution on all records may take, in scans of them.
 const SCANS_OF_A_SOLUTION: f64 = 1.5;
+/// How many times as fast as the Rust a search shall be.
+const SEARCH_GOAL: f64 = 2.0;
 
 fn main() -> ExitCode {
     let words: Vec<String> = std::env::args().skip(1).collect();
@@ -45,6 +48,7 @@ fn time(rounds: usize) -> bool {
     println!("{:<48} {:>12} {:>12} {:>9}", "", "ours, ns", "Rust, ns", "ratio");
     let cases: Vec<(Case, Figure)> =
         cases::all().into_iter().map(|case| (case, printed(case.measure(rounds)))).collect();
+    let searches = searches::measure(rounds).into_iter().map(printed).collect::<Vec<Figure>>();
     let trees = trees::measure(rounds);
     for figure in &trees.figures {
         println!("{figure}");
@@ -52,6 +56,9 @@ fn time(rounds: usize) -> bool {
     let mut met = true;
     for (case, figure) in &cases {
         met &= case.goal.map_or(true, |goal| judge_ratio(&figure.name, goal, figure.ratio));
+    }
+    for figure in &searches {
+        met &= judge_ratio(&figure.name, SEARCH_GOAL, figure.ratio);
     }
     let slowest = cases.iter().map(|(_, figure)| figure).min_by(|a, b| a.ratio.total_cmp(&b.ratio));
     met &= judge_ratio("every replay and text", 1.0, slowest.expect("a case").ratio);

@@ -33,10 +33,10 @@ pub fn measure(rounds: usize) -> Trees {
     let mut tree = Simulator::of_root(&contexts[0], ActionSet::new());
     let mut random = Random(RECORDS as u64);
     grow(&mut tree, &mut random);
-    let mut nodes = records(&mut tree);
+    let mut nodes = records(&tree);
     let back = in_rounds(rounds, || back_round(&mut tree, &mut nodes, &mut random));
     let solution = in_rounds(rounds, || solution_round(&tree, &mut nodes));
-    check_same(&mut tree, &nodes);
+    check_same(&tree, &nodes);
     let scans_of_a_solution = median(solution.iter().flatten().map(|call| call.entry / call.scan));
     let figures = [figures("back-propagation", back), figures("solution", solution)];
     Trees { figures: figures.into_iter().flatten().collect(), scans_of_a_solution }
@@ -57,7 +57,8 @@ fn score(random: &mut Random) -> f32 {
     random.below(1 << 24) as f32 / (1 << 24) as f32
 }
 
-fn records(tree: &mut Simulator) -> Vec<Node> {
+/// As our records have them.
+pub fn records(tree: &Simulator) -> Vec<Node> {
     let record = |node: &crafty::tree::Node<CraftState>| Node {
         parent: node.parent.unwrap_or(0),
         action: node.state.action.map_or(NO_ACTION, |action| action as u8),
@@ -66,7 +67,7 @@ fn records(tree: &mut Simulator) -> Vec<Node> {
         max_score: node.state.max_score,
         unused: node.state.available_moves.bits(),
     };
-    tree.tree_mut().nodes.iter().map(record).collect()
+    tree.tree().nodes.iter().map(record).collect()
 }
 
 /// What a call of the entry, the scan in it and a call of the Rust take, in nanoseconds.
@@ -141,7 +142,7 @@ fn figures(name: &str, rounds: Vec<Vec<Call>>) -> [Figure; 2] {
 }
 
 /// Every record after all rounds, and the way that the solution takes through them.
-fn check_same(tree: &mut Simulator, nodes: &[Node]) {
+fn check_same(tree: &Simulator, nodes: &[Node]) {
     assert!(records(tree) == nodes, "the records differ");
     let mut room = [0; RECORDS];
     let ours = solve(nodes, &mut room);

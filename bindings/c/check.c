@@ -362,6 +362,188 @@ static void check_trees(void)
     check_soundness();
 }
 
+/* ---- the search, of a craft with the moves 0 and 5. Each draw is 0 and so picks the highest, and all logarithms are 0. The
+ * first iteration stores 5 0 0, the second 0 5 0, and the third 0 below the second's first record. */
+
+enum { ITERATIONS = 3, GROWN = 8, SPARE = 9, DRAWN = 7, PATH = 2, LOGS = 4096 };
+
+/* What a search is asked, but for what is lent to be written. */
+struct asked {
+    uint32_t step_max, iterations;
+    float threshold, weighting, exploration;
+    size_t logs, draws, records, room;
+};
+
+static const struct asked usual = { 8, ITERATIONS, 0, 0.1f, 1.5f, LOGS, DRAWN, GROWN, PATH };
+
+static float logs[LOGS + 1];
+static uint8_t draws[DRAWN];
+static crafty_node tree[SPARE];
+
+/* With what no tree holds. */
+static void clear_tree(void)
+{
+    for (size_t i = 0; i < SPARE; i++) tree[i] = (crafty_node){ 9, 99, NAN, -8, -0.0f, NO_SET };
+}
+
+static crafty_found search(struct asked a)
+{
+    return crafty_search(
+        tree, a.records, logs, a.logs, draws, a.draws, room, a.room,
+        50, 50, 100, 100, a.step_max, 200, 0, 0, 40, 100, 0, 33, 0, 0, 0,
+        a.iterations, a.threshold, a.weighting, a.exploration);
+}
+
+/* The tree after so many iterations, and behind it each record as it was. */
+static void expect_tree(uint32_t iterations, size_t count, const char *what)
+{
+    static const crafty_node grown[ITERATIONS + 1][SPARE] = {
+        { { 0, 31, 0, 0, 0, 33 } },
+        { { 0, 31, 1, 0.5f, 0.5f, 1 }, { 0, 5, 1, 0.5f, 0.5f, 0 }, { 1, 0, 1, 0.5f, 0.5f, 0 }, { 2, 0, 1, 0.5f, 0.5f, 0 } },
+        { { 0, 31, 2, 1, 0.5f, 0 }, { 0, 5, 1, 0.5f, 0.5f, 0 }, { 1, 0, 1, 0.5f, 0.5f, 0 }, { 2, 0, 1, 0.5f, 0.5f, 0 },
+          { 0, 0, 1, 0.5f, 0.5f, 1 }, { 4, 5, 1, 0.5f, 0.5f, 0 }, { 5, 0, 1, 0.5f, 0.5f, 0 } },
+        { { 0, 31, 3, 1.625f, 0.625f, 0 }, { 0, 5, 1, 0.5f, 0.5f, 0 }, { 1, 0, 1, 0.5f, 0.5f, 0 }, { 2, 0, 1, 0.5f, 0.5f, 0 },
+          { 0, 0, 2, 1.125f, 0.625f, 0 }, { 4, 5, 1, 0.5f, 0.5f, 0 }, { 5, 0, 1, 0.5f, 0.5f, 0 }, { 4, 0, 1, 0.625f, 0.625f, 0 } },
+    };
+    static const crafty_node untouched = { 9, 99, NAN, -8, -0.0f, NO_SET };
+    for (size_t i = 0; i < SPARE; i++) expect(is_same(&tree[i], i < count ? &grown[iterations][i] : &untouched), what);
+    clear_tree();
+}
+
+/* The craft's start, which comes back with a refusal. */
+static const crafty_state start = { 1, 0, 0, 40, 100, 0, 0, 0, 0, 0, 0, 0, 0, 0, 0, 0, 31 };
+
+static void expect_found(crafty_found said, const crafty_found *wanted, const char *what)
+{
+    expect(said.number == wanted->number && said.value == wanted->value, what);
+    expect(said.iterations == wanted->iterations && said.records == wanted->records && said.draws == wanted->draws, what);
+    expect(said.path == wanted->path && said.node == wanted->node, what);
+    expect(memcmp(&said.state, &wanted->state, sizeof said.state) == 0, what);
+}
+
+/* After so many iterations, which stand. */
+static void expect_stopped(struct asked a, uint32_t number, size_t value, uint32_t iterations, const char *what)
+{
+    static const size_t records[] = { 1, 4, 7, 8 }, drawn[] = { 0, 3, 6, 7 };
+    crafty_found wanted = { number, iterations, value, records[iterations], drawn[iterations], 0, 0, start };
+    expect_found(search(a), &wanted, what);
+    expect_text((crafty_answer){ 0, 0 }, 0, 0, "", what);
+    expect_tree(iterations, records[iterations], what);
+}
+
+/* Before any work. */
+static void expect_refused(struct asked a, uint32_t number, size_t value, const char *what)
+{
+    crafty_found wanted = { number, 0, value, 0, 0, 0, 0, start };
+    if (number == CRAFTY_OUTSIDE_LIMITS) memset(&wanted.state, 0, sizeof wanted.state);
+    expect_found(search(a), &wanted, what);
+    expect_text((crafty_answer){ 0, 0 }, 0, 0, "", what);
+    expect_tree(0, 0, what);
+}
+
+static void expect_whole(struct asked a, const char *what)
+{
+    static const crafty_found wanted = {
+        CRAFTY_SUCCESS, ITERATIONS, 0, GROWN, DRAWN, PATH, 7, { 3, 200, 0, 20, 100, 0, 0, 0, 0, 0, 0, 0, 0, 0, 0, 0, 0 },
+    };
+    expect_found(search(a), &wanted, what);
+    expect(room[0] == 0 && room[1] == 0, what);
+    room[0] = room[1] = UNTOUCHED;
+    expect_text((crafty_answer){ 0, 0 }, 0, 0, "", what);
+    expect_tree(ITERATIONS, GROWN, what);
+}
+
+static struct asked with_logs(size_t length) { struct asked a = usual; a.logs = length; return a; }
+static struct asked with_draws(size_t length) { struct asked a = usual; a.draws = length; return a; }
+static struct asked with_records(size_t length) { struct asked a = usual; a.records = length; return a; }
+static struct asked with_room(size_t length) { struct asked a = usual; a.room = length; return a; }
+static struct asked with_steps(uint32_t step_max) { struct asked a = usual; a.step_max = step_max; return a; }
+static struct asked with_iterations(uint32_t iterations) { struct asked a = usual; a.iterations = iterations; return a; }
+static struct asked with_threshold(float threshold) { struct asked a = usual; a.threshold = threshold; return a; }
+static struct asked with_weighting(float weighting) { struct asked a = usual; a.weighting = weighting; return a; }
+static struct asked with_exploration(float exploration) { struct asked a = usual; a.exploration = exploration; return a; }
+
+static void check_iterations(void)
+{
+    expect(offsetof(crafty_found, value) == 8 && offsetof(crafty_found, state) == 48, "where an answer has its state");
+    expect(sizeof(crafty_state) == 68 && sizeof(crafty_found) == 120, "how long an answer is");
+    expect_whole(usual, "a search");
+    expect_whole(with_records(SPARE), "a search with a record to spare");
+    expect_whole(with_room(ROOM), "a search with room to spare");
+
+    expect_stopped(with_draws(6), CRAFTY_NO_DRAW, 0, 2, "refusal 19 of the last draw");
+    expect_stopped(with_draws(5), CRAFTY_NO_DRAW, 0, 1, "refusal 19 within an iteration");
+    expect_stopped(with_draws(0), CRAFTY_NO_DRAW, 0, 0, "refusal 19 of the first draw");
+    draws[6] = 1;
+    expect_stopped(usual, CRAFTY_DRAW_TOO_HIGH, 0, 2, "refusal 20 of the last draw");
+    expect_stopped(with_draws(6), CRAFTY_NO_DRAW, 0, 2, "refusal 19 before a draw too high");
+    expect_stopped(with_records(7), CRAFTY_DRAW_TOO_HIGH, 0, 2, "refusal 20 before 6");
+    draws[6] = 0;
+    draws[4] = 2;
+    expect_stopped(usual, CRAFTY_DRAW_TOO_HIGH, 0, 1, "refusal 20 of a rollout");
+    expect_stopped(with_draws(5), CRAFTY_DRAW_TOO_HIGH, 0, 1, "refusal 20 before draws that lack");
+    draws[4] = 0;
+    expect_stopped(with_records(7), CRAFTY_NO_ROOM, 8, 2, "refusal 6 of one record");
+    expect_stopped(with_records(6), CRAFTY_NO_ROOM, 7, 1, "refusal 6 of a path of records");
+    expect_stopped(with_records(1), CRAFTY_NO_ROOM, 4, 0, "refusal 6 of the first iteration");
+    expect_stopped(with_room(1), CRAFTY_NO_ROOM, 2, 3, "refusal 6 of the path");
+}
+
+static void check_options(void)
+{
+    static const crafty_found none = { CRAFTY_SUCCESS, 0, 0, 1, 0, 0, 0, { 1, 0, 0, 40, 100, 0, 0, 0, 0, 0, 0, 0, 0, 0, 0, 0, 31 } };
+    expect_found(search(with_iterations(0)), &none, "a search of no iteration");
+    expect_tree(0, 1, "the tree of no iteration");
+    expect_refused(with_records(0), CRAFTY_NO_ROOM, 1, "refusal 6 of record 0");
+    expect_refused(with_steps(256), CRAFTY_OUTSIDE_LIMITS, 0, "refusal 1 of a search");
+    expect_refused(with_steps(0), CRAFTY_BAD_SEARCH, 0, "refusal 21 of step_max");
+    expect_refused(with_iterations(4097), CRAFTY_BAD_SEARCH, 0, "refusal 21 of iterations");
+    expect_refused(with_threshold(NAN), CRAFTY_BAD_SEARCH, 0, "refusal 21 of a threshold");
+    expect_refused(with_weighting(0x1.000002p0f), CRAFTY_BAD_SEARCH, 0, "refusal 21 of a weight above 1");
+    expect_refused(with_weighting(-0x1p-149f), CRAFTY_BAD_SEARCH, 0, "refusal 21 of a weight below 0");
+    expect_refused(with_weighting(NAN), CRAFTY_BAD_SEARCH, 0, "refusal 21 of a weight that is a NaN");
+    expect_refused(with_exploration(0x1.000002p4f), CRAFTY_BAD_SEARCH, 0, "refusal 21 of an exploration above 16");
+    expect_refused(with_exploration(-0x1p-149f), CRAFTY_BAD_SEARCH, 0, "refusal 21 of an exploration below 0");
+    expect_refused(with_exploration(NAN), CRAFTY_BAD_SEARCH, 0, "refusal 21 of an exploration that is a NaN");
+    expect_whole(with_threshold(-INFINITY), "a threshold of minus infinity");
+    expect_whole(with_weighting(1), "the greatest weight");
+    expect_whole(with_weighting(-0.0f), "a weight of minus zero");
+    expect_whole(with_exploration(16), "the greatest exploration");
+    expect_whole(with_exploration(-0.0f), "an exploration of minus zero");
+
+    struct asked wrong = with_iterations(4097);
+    wrong.records = 0;
+    expect_refused(wrong, CRAFTY_BAD_SEARCH, 0, "refusal 21 before 6");
+    wrong.step_max = 256;
+    expect_refused(wrong, CRAFTY_OUTSIDE_LIMITS, 0, "refusal 1 before 21");
+}
+
+static void check_logarithms(void)
+{
+    static const float wrong[] = { NAN, -0x1p-149f, 0x1.100002p4f, INFINITY };
+    static const float right[] = { -0.0f, 0x1p-149f, 17 };
+    expect_refused(with_logs(LOGS - 1), CRAFTY_BAD_SEARCH, 0, "refusal 21 of a logarithm that lacks");
+    for (size_t i = 0; i < sizeof wrong / sizeof *wrong; i++) {
+        logs[LOGS - 1] = wrong[i];
+        expect_refused(usual, CRAFTY_BAD_SEARCH, 0, "refusal 21 of the last logarithm");
+        logs[LOGS - 1] = 0;
+        logs[LOGS] = wrong[i];
+        expect_whole(with_logs(LOGS + 1), "a wrong logarithm that is not read");
+    }
+    for (size_t i = 0; i < sizeof right / sizeof *right; i++) {
+        logs[LOGS - 1] = right[i];
+        expect_whole(usual, "a logarithm at its edge");
+    }
+}
+
+static void check_searches(void)
+{
+    clear_tree();
+    check_iterations();
+    check_options();
+    check_logarithms();
+}
+
 int main(void)
 {
     fill();
@@ -369,5 +551,6 @@ int main(void)
     check_texts();
     check_replays();
     check_trees();
+    check_searches();
     return failed;
 }

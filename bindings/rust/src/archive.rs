@@ -1,6 +1,8 @@
 //! The functions of include/crafty.h. A slice of Rust keeps all that a host owes of a pointer and a length, and every
 //! function takes any numbers and bytes, so each call is safe.
 
+use crate::report::STATE_NUMBERS;
+use crate::search::SearchOptions;
 use crate::tree::Node;
 use crate::Refusal;
 
@@ -28,6 +30,25 @@ impl Solution {
     pub fn told(self) -> Result<(usize, usize), Refusal> {
         let Solution { number, value, node } = self;
         Answer { number, value }.told().map(|value| (value, node))
+    }
+}
+
+#[repr(C)]
+pub struct Found {
+    number: u32,
+    pub iterations: u32,
+    value: usize,
+    pub records: usize,
+    pub draws: usize,
+    pub path: usize,
+    pub node: usize,
+    pub state: [u32; STATE_NUMBERS],
+}
+
+impl Found {
+    /// None for success.
+    pub fn refusal(&self) -> Option<Refusal> {
+        Refusal::of_number(self.number, self.value)
     }
 }
 
@@ -112,6 +133,35 @@ extern "C" {
         out_length: usize,
         count: usize,
     ) -> Solution;
+    fn crafty_search(
+        nodes: *mut Node,
+        nodes_length: usize,
+        logs: *const f32,
+        logs_length: usize,
+        draws: *const u8,
+        draws_length: usize,
+        out: *mut u8,
+        out_length: usize,
+        player_job_level: u32,
+        recipe_job_level: u32,
+        base_progress_factor: u32,
+        base_quality_factor: u32,
+        step_max: u32,
+        progress_target: u32,
+        starting_quality: u32,
+        quality_target: u32,
+        durability_max: u32,
+        cp_max: u32,
+        is_expert: u32,
+        action_pool: u32,
+        player_is_specialist: u32,
+        use_manipulation: u32,
+        use_delineation: u32,
+        iterations: u32,
+        score_storage_threshold: f32,
+        max_score_weighting_constant: f32,
+        exploration_constant: f32,
+    ) -> Found;
 }
 
 pub fn replay(context: [u32; 15], strict: bool, list: &[u8], out: &mut [u32]) -> Answer {
@@ -177,4 +227,46 @@ pub fn tree_children(nodes: &[Node], out: &mut [usize], count: usize, node: usiz
 pub fn tree_solution(nodes: &[Node], out: &mut [u8], count: usize) -> Solution {
     let (nodes, length) = (nodes.as_ptr(), nodes.len());
     unsafe { crafty_tree_solution(nodes, length, out.as_mut_ptr(), out.len(), count) }
+}
+
+pub fn search(
+    nodes: &mut [Node],
+    logs: &[f32],
+    draws: &[u8],
+    out: &mut [u8],
+    context: [u32; 15],
+    options: &SearchOptions,
+) -> Found {
+    let [a, b, c, d, e, f, g, h, i, j, k, l, m, n, o] = context;
+    unsafe {
+        crafty_search(
+            nodes.as_mut_ptr(),
+            nodes.len(),
+            logs.as_ptr(),
+            logs.len(),
+            draws.as_ptr(),
+            draws.len(),
+            out.as_mut_ptr(),
+            out.len(),
+            a,
+            b,
+            c,
+            d,
+            e,
+            f,
+            g,
+            h,
+            i,
+            j,
+            k,
+            l,
+            m,
+            n,
+            o,
+            options.iterations,
+            options.score_storage_threshold,
+            options.max_score_weighting_constant,
+            options.exploration_constant,
+        )
+    }
 }

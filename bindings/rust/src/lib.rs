@@ -12,6 +12,7 @@ mod context;
 pub mod lent;
 mod refusal;
 mod report;
+pub mod search;
 pub mod tree;
 
 pub use context::{Context, Mode};

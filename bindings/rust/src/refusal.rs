@@ -27,6 +27,12 @@ pub enum Refusal {
     MalformedLine,
     /// An input, or a list to write as text or to time, is above 65,536 bytes.
     TooLong,
+    /// A search wants a draw, and none is left.
+    NoDraw,
+    /// A draw is not below the number of moves that it is to pick from.
+    DrawTooHigh,
+    /// An option of a search or a logarithm is outside its limits, or `step_max` is 0.
+    BadSearch,
 }
 
 impl Refusal {
@@ -45,6 +51,9 @@ impl Refusal {
             11 => Some(Refusal::VisitsFull),
             12 => Some(Refusal::MalformedLine),
             13 => Some(Refusal::TooLong),
+            19 => Some(Refusal::NoDraw),
+            20 => Some(Refusal::DrawTooHigh),
+            21 => Some(Refusal::BadSearch),
             _ => unreachable!("no function refuses by {number}"),
         }
     }
@@ -63,6 +72,9 @@ impl Refusal {
             Refusal::VisitsFull => 11,
             Refusal::MalformedLine => 12,
             Refusal::TooLong => 13,
+            Refusal::NoDraw => 19,
+            Refusal::DrawTooHigh => 20,
+            Refusal::BadSearch => 21,
         }
     }
 }
@@ -87,6 +99,11 @@ impl fmt::Display for Refusal {
             Refusal::VisitsFull => write!(out, "a record on the way has all its visits"),
             Refusal::MalformedLine => write!(out, "the first line is not fifteen numbers"),
             Refusal::TooLong => write!(out, "more than 65,536 bytes"),
+            Refusal::NoDraw => write!(out, "the draws are used up"),
+            Refusal::DrawTooHigh => write!(out, "a draw is not below the number of moves"),
+            Refusal::BadSearch => {
+                write!(out, "an option of the search or a logarithm is outside its limits")
+            }
         }
     }
 }

@@ -2,6 +2,9 @@
 
 use crate::lent::NUMBERS;
 
+/// How many of a report's numbers are the state's, which come last.
+pub(crate) const STATE_NUMBERS: usize = 17;
+
 /// Where a replay stopped.
 #[derive(Clone, Copy, Debug, PartialEq)]
 pub struct Report {
@@ -71,11 +74,31 @@ pub struct Buffs {
 impl Report {
     /// The archive is proved to write numbers of this shape only.
     pub(crate) fn from_numbers(numbers: &[u32; NUMBERS]) -> Report {
+        let mut state = [0; STATE_NUMBERS];
+        state.copy_from_slice(&numbers[NUMBERS - STATE_NUMBERS..]);
         Report {
             outcome: outcome(numbers[0], numbers[1]),
             executed: numbers[2] as usize,
             moves: numbers[3],
-            state: state(numbers),
+            state: State::from_numbers(&state),
+        }
+    }
+}
+
+impl State {
+    /// The same is proved of these.
+    pub(crate) fn from_numbers(numbers: &[u32; STATE_NUMBERS]) -> State {
+        State {
+            step: numbers[0] as u8,
+            progress: numbers[1],
+            quality: numbers[2],
+            durability: numbers[3] as i8,
+            cp: numbers[4],
+            combo: combo(numbers[5]),
+            quick_innovation_available: numbers[6] == 1,
+            trained_perfection: perfection(numbers[7]),
+            buffs: buffs(&numbers[8..16]),
+            last_action: Some(numbers[16] as u8).filter(|last| *last < 31),
         }
     }
 }
@@ -88,21 +111,6 @@ fn outcome(number: u32, score: u32) -> Outcome {
         3 => Outcome::InvalidActionFailure,
         4 => Outcome::Continuing,
         _ => unreachable!("no result has the number {number}"),
-    }
-}
-
-fn state(numbers: &[u32; NUMBERS]) -> State {
-    State {
-        step: numbers[4] as u8,
-        progress: numbers[5],
-        quality: numbers[6],
-        durability: numbers[7] as i8,
-        cp: numbers[8],
-        combo: combo(numbers[9]),
-        quick_innovation_available: numbers[10] == 1,
-        trained_perfection: perfection(numbers[11]),
-        buffs: buffs(numbers),
-        last_action: Some(numbers[20] as u8).filter(|last| *last < 31),
     }
 }
 
@@ -126,15 +134,15 @@ fn perfection(number: u32) -> Perfection {
     }
 }
 
-fn buffs(numbers: &[u32; NUMBERS]) -> Buffs {
+fn buffs(numbers: &[u32]) -> Buffs {
     Buffs {
-        inner_quiet: numbers[12] as u8,
-        waste_not: numbers[13] as u8,
-        waste_not_ii: numbers[14] as u8,
-        manipulation: numbers[15] as u8,
-        great_strides: numbers[16] as u8,
-        innovation: numbers[17] as u8,
-        veneration: numbers[18] as u8,
-        muscle_memory: numbers[19] as u8,
+        inner_quiet: numbers[0] as u8,
+        waste_not: numbers[1] as u8,
+        waste_not_ii: numbers[2] as u8,
+        manipulation: numbers[3] as u8,
+        great_strides: numbers[4] as u8,
+        innovation: numbers[5] as u8,
+        veneration: numbers[6] as u8,
+        muscle_memory: numbers[7] as u8,
     }
 }

@@ -35,7 +35,8 @@ pub struct Node {
     /// From +0 to 1, and not minus zero.
     pub max_score: f32,
     /// The moves not drawn from the record yet, bit n for action n: bit 31 is clear, and no more is asked. They are the
-    /// caller's to keep: the functions write those of a new record alone.
+    /// caller's to keep: the functions here write those of a new record alone, and a search, which draws, those of its
+    /// tree.
     pub unused: u32,
 }
 

@@ -50,6 +50,16 @@ pub mod recipe {
 pub mod simulator {
     include!(concat!(env!("CRAFTY_SRC"), "/crafty/src/simulator.rs"));
 
+    use crate::tree::Node;
+
+    /// What one iteration of a search met.
+    pub struct Met {
+        /// How its rollout ended; at a dead end there is none.
+        pub rolled_out: Option<CraftResult>,
+        /// How often on the way down more than one child had the greatest score.
+        pub ties: u64,
+    }
+
     impl<'a> Simulator<'a> {
         /// What `simulate` leaves out: how many of the actions it executes.
         pub fn executed(context: &'a CraftContext, actions: Vec<Action>) -> usize {
@@ -86,14 +96,50 @@ pub mod simulator {
             (sim, index, result)
         }
 
-        /// As `search_oneshot`, and how many nodes its tree has.
-        pub fn search_counted(
+        /// As `search_oneshot`, and its tree and draws.
+        pub fn search_logged(
             context: &'a CraftContext,
             options: SearchOptions,
-        ) -> (Vec<Action>, CraftState<'a>, usize) {
-            let mut sim = Self::from_context(context, options);
+        ) -> (Vec<Action>, CraftState<'a>, Self) {
+            let mut sim = Self::from_context_logged(context, options);
             let (actions, state) = sim.search(0).solution();
-            (actions, state, sim.tree.nodes.len())
+            (actions, state, sim)
+        }
+
+        /// A search that has not begun.
+        pub fn from_context_logged(context: &'a CraftContext, options: SearchOptions) -> Self {
+            let mut sim = Self::from_context(context, options);
+            sim.rng.keep_log();
+            sim
+        }
+
+        pub fn draws(&self) -> &[rand::Draw] {
+            self.rng.log()
+        }
+
+        /// One iteration, as `search` has it, and what it met.
+        pub fn watch_iteration(&mut self) -> Met {
+            let (selected, ties) = self.select_counting(0);
+            let (end, result) = self.expand_and_rollout(selected);
+            let score = match result {
+                CraftResult::Finished(score) => score,
+                _ => 0.0,
+            };
+            self.backpropagate(end, 0, score);
+            Met { rolled_out: (selected != end).then(|| result), ties }
+        }
+
+        /// As `select`, and how often more than one child had the greatest score.
+        fn select_counting(&self, start: usize) -> (usize, u64) {
+            let selected = self.select(start);
+            let parents = std::iter::successors(Some(selected), |node| self.tree.get(*node).parent);
+            let is_tie = |node: &usize| {
+                let Node { state, children, .. } = self.tree.get(*node);
+                let score = |child: &usize| self.ucb1(&self.tree.get(*child).state, state);
+                let greatest = children.iter().map(score).fold(f32::NEG_INFINITY, f32::max);
+                children.iter().filter(|child| score(child) == greatest).count() > 1
+            };
+            (selected, parents.skip(1).filter(is_tie).count() as u64)
         }
 
         fn depth(&self, index: usize) -> usize {
@@ -118,6 +164,10 @@ pub mod simulator {
             let start = CraftState::new(self.tree.get(0).state.context);
             let action = Some(action);
             self.tree.insert(parent, CraftState { progress, action, available_moves, ..start })
+        }
+
+        pub fn tree(&self) -> &Arena<CraftState<'a>> {
+            &self.tree
         }
 
         pub fn tree_mut(&mut self) -> &mut Arena<CraftState<'a>> {
@@ -146,5 +196,6 @@ pub use action_set::ActionSet;
 pub use craft_context::{CraftContext, CraftOptions};
 pub use craft_state::{Buffs, CraftResult, CraftState};
 pub use player::Player;
+pub use rand::Draw;
 pub use recipe::Recipe;
-pub use simulator::{SearchOptions, Simulator};
+pub use simulator::{Met, SearchOptions, Simulator};

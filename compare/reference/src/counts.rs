@@ -4,7 +4,7 @@ use std::collections::BTreeMap;
 use std::fmt;
 
 /// One more than the greatest number of a refusal.
-const NUMBERS: usize = 14;
+const NUMBERS: usize = 22;
 
 #[derive(Default)]
 pub struct Counts {
@@ -19,7 +19,16 @@ impl Counts {
     }
 
     pub fn met(&mut self, what: &str) {
-        *self.others.entry(what.to_string()).or_default() += 1;
+        self.met_times(what, 1);
+    }
+
+    pub fn met_times(&mut self, what: &str, times: u64) {
+        *self.others.entry(what.to_string()).or_default() += times;
+    }
+
+    /// Those counted by a name.
+    pub fn others(&self) -> impl Iterator<Item = (&str, u64)> {
+        self.others.iter().map(|(what, count)| (what.as_str(), *count))
     }
 
     pub fn of(&self, entry: &'static str) -> [u64; NUMBERS] {

@@ -21,6 +21,7 @@ mod random;
 mod refusal;
 mod replays;
 mod room;
+mod searches;
 mod sets;
 mod states;
 mod texts;
@@ -31,7 +32,7 @@ use lined::Lined;
 use std::io::{self, Write};
 
 const COMMANDS: &str = "sample PROGRAM FILE | thresholds SEED COUNT | WHAT SEED COUNT PROGRAM.., \
-    where WHAT is cases, states, displays, replays, texts or trees, or bad-cases, bad-crafts, bad-texts or bad-trees";
+    where WHAT is cases, states, displays, replays, texts, trees or searches, or bad-cases, bad-crafts, bad-texts or bad-trees";
 
 fn main() -> io::Result<()> {
     let arguments: Vec<String> = std::env::args().skip(1).collect();
@@ -58,6 +59,7 @@ fn compare(what: &str, seed: u64, count: u64, program: &[&str]) -> io::Result<()
         "replays" => crafts::compare_replays(seed, count, program),
         "texts" => texts::compare(seed, count, program),
         "trees" => trees::compare(seed, count, program),
+        "searches" => searches::compare(seed, count, program),
         "bad-cases" => bad::compare_cases(seed, count, program),
         "bad-crafts" => bad::compare_crafts(seed, count, program),
         "bad-texts" => bad::compare_texts(seed, count, program),

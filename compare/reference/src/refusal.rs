@@ -17,6 +17,9 @@ pub enum Refusal {
     VisitsFull,
     MalformedLine,
     TooLong,
+    NoDraw,
+    DrawTooHigh,
+    BadSearch,
 }
 
 impl Refusal {
@@ -35,6 +38,9 @@ impl Refusal {
             Refusal::VisitsFull => 11,
             Refusal::MalformedLine => 12,
             Refusal::TooLong => 13,
+            Refusal::NoDraw => 19,
+            Refusal::DrawTooHigh => 20,
+            Refusal::BadSearch => 21,
         }
     }
 

@@ -18,7 +18,7 @@ struct Found {
 
 /// Of COUNT searches at each threshold, with seeds from `seed` on.
 pub fn print(seed: u64, count: u64) {
-    let context = context();
+    let context = players(70, 30);
     for threshold in THRESHOLDS {
         let seeds = seed..seed + count;
         let found: Vec<Found> = seeds.map(|seed| search(&context, seed, threshold)).collect();
@@ -36,8 +36,9 @@ fn search(context: &CraftContext, seed: u64, threshold: f32) -> Found {
         score_storage_threshold: Some(threshold),
         ..SearchOptions::default()
     };
-    let (actions, state, nodes) = Simulator::search_counted(context, options);
+    let (actions, state, search) = Simulator::search_logged(context, options);
     let result = result::name(&state.check_result());
+    let nodes = search.tree().nodes.len();
     Found { actions: actions.len(), result, max_score: state.max_score, nodes }
 }
 
@@ -63,14 +64,14 @@ fn range(numbers: impl Iterator<Item = usize> + Clone) -> String {
 }
 
 /// As a player of the highest level has it.
-fn context() -> CraftContext {
+pub fn players(durability: i8, max_steps: u8) -> CraftContext {
     let recipe = Recipe {
         recipe_level: 690,
         job_level: 100,
         stars: 0,
         progress: 6_600,
         quality: 12_000,
-        durability: 70,
+        durability,
         progress_div: 170,
         progress_mod: 90,
         quality_div: 150,
@@ -79,7 +80,7 @@ fn context() -> CraftContext {
         conditions_flag: 15,
     };
     let options = CraftOptions {
-        max_steps: 30,
+        max_steps,
         player_is_specialist: true,
         use_manipulation: true,
         use_delineation: true,

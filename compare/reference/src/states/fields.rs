@@ -24,8 +24,13 @@ pub const LAST: usize = 31;
 /// The numbers of a context, which come first in a line.
 pub type ContextNumbers = [u32; STEP];
 
+/// The numbers of a state, which come after them.
+pub type StateNumbers = [u32; LAST + 1 - STEP];
+
 /// The number that says that no action came before.
 pub const NO_ACTION: u32 = 256;
+/// And how the archive says it.
+const NO_LAST: u32 = 31;
 
 /// From the first numbers of a line.
 pub fn context(numbers: &[u32]) -> CraftContext {
@@ -102,6 +107,16 @@ pub fn numbers(state: &CraftState) -> Numbers {
     numbers[INNER_QUIET..LAST].copy_from_slice(&buff_timers(state).map(u32::from));
     numbers[LAST] = state.action.map_or(NO_ACTION, |action| action as u32);
     numbers
+}
+
+/// The seventeen fields of a state as the archive tells them.
+pub fn told_numbers(state: &CraftState) -> StateNumbers {
+    let mut numbers = numbers(state);
+    numbers[DURABILITY] = i32::from(state.durability) as u32;
+    if state.action.is_none() {
+        numbers[LAST] = NO_LAST;
+    }
+    numbers[STEP..=LAST].try_into().expect("seventeen numbers")
 }
 
 pub fn context_numbers(context: &CraftContext) -> ContextNumbers {

@@ -15,5 +15,6 @@ mod timing;
 pub use call::{Call, Function};
 pub use damage::{damage as damage_text, EDGES};
 pub use generate::{in_room, list_of, text_of, words_of, Case};
+pub use input::context as checked_context;
 pub use lists::INPUT_MOST;
 pub use run::compare;

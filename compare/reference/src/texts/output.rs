@@ -5,13 +5,10 @@ use super::input::{self, Input};
 use super::lists::known_list;
 use crate::refusal::Refusal;
 use crate::replays::report::{report, Report};
-use crate::states::fields::{numbers as state_numbers, DURABILITY, LAST, NO_ACTION, STEP};
+use crate::states::fields::told_numbers;
 use crate::states::mode::Mode;
 use crate::states::result::{self, RESULTS};
 use crafty::CraftResult;
-
-/// How `crafty_replay` says that no action came before.
-const NO_LAST: u32 = 31;
 
 /// The state's line at the start and after each action executed, and the line of the result.
 pub fn text(input: &[u8]) -> Result<Vec<u8>, Refusal> {
@@ -40,12 +37,7 @@ pub fn numbers(call: &Call) -> Result<Vec<u8>, Refusal> {
     let actions = known_list(&call.input)?;
     let report = report(&context, call.mode, actions);
     let mut numbers = ended(&report).to_vec();
-    let mut fields = state_numbers(&report.state);
-    fields[DURABILITY] = i32::from(report.state.durability) as u32;
-    if fields[LAST] == NO_ACTION {
-        fields[LAST] = NO_LAST;
-    }
-    numbers.extend(&fields[STEP..=LAST]);
+    numbers.extend(told_numbers(&report.state));
     Ok(numbers.into_iter().flat_map(u32::to_le_bytes).collect())
 }
 

@@ -1,6 +1,6 @@
 //! The Rust's own tree with the nodes of given records, sound ones.
 
-use super::record::{Record, NO_ACTION};
+use super::record::Record;
 use crate::states::bench::bench;
 use crate::states::fields::set;
 use crafty::{Action, CraftContext, Simulator};
@@ -11,7 +11,7 @@ static CONTEXT: LazyLock<CraftContext> = LazyLock::new(bench);
 pub struct Tree(Simulator<'static>);
 
 impl Tree {
-    /// Of a root alone, as the Rust starts one. The unused moves of a node are its state's `available_moves`.
+    /// Of a root alone, as the Rust starts one.
     pub fn new(unused: u32) -> Tree {
         Tree(Simulator::of_root(&CONTEXT, set(unused)))
     }
@@ -30,25 +30,16 @@ impl Tree {
         tree
     }
 
-    pub fn records(&mut self) -> Vec<Record> {
-        let nodes = self.0.tree_mut().nodes.iter();
-        let record = |node: &crafty::tree::Node<crafty::CraftState>| Record {
-            parent: node.parent.unwrap_or(0) as u64,
-            action: node.state.action.map_or(NO_ACTION, |action| action as u8),
-            visits: node.state.visits,
-            score_sum: node.state.score_sum,
-            max_score: node.state.max_score,
-            unused: node.state.available_moves.bits(),
-        };
-        nodes.map(record).collect()
+    pub fn records(&self) -> Vec<Record> {
+        self.0.tree().nodes.iter().map(Record::of).collect()
     }
 
     pub fn insert(&mut self, parent: usize, action: u8, unused: u32) -> usize {
         self.0.insert_action(parent, Action::ACTIONS[usize::from(action)], set(unused))
     }
 
-    pub fn children(&mut self, node: usize) -> Vec<usize> {
-        self.0.tree_mut().get(node).children.clone()
+    pub fn children(&self, node: usize) -> Vec<usize> {
+        self.0.tree().get(node).children.clone()
     }
 
     pub fn backpropagate(&mut self, start: usize, target: usize, score: f32) {

@@ -17,9 +17,9 @@ mod ways;
 
 pub use call::{Call, Function, FUNCTIONS};
 pub use damage::{no_counts, DAMAGES};
-pub use floats::any as any_float;
+pub use floats::{any as any_float, BELOW_ONE, LEAST, NANS};
 pub use generate::Case;
-pub use record::Record;
+pub use record::{Record, WIDTH};
 pub use run::compare;
 pub use sequence::{any_record, made_up};
 pub use sound::{is_sound, upward};

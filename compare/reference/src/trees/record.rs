@@ -1,5 +1,7 @@
 //! A record of a tree, in the bytes that it has in C. Two are the same where their bits are.
 
+use crafty::tree::Node;
+use crafty::CraftState;
 use std::fmt;
 
 pub const WIDTH: usize = 32;
@@ -20,6 +22,18 @@ pub struct Record {
 impl Record {
     pub fn new(parent: u64, action: u8, unused: u32) -> Record {
         Record { parent, action, visits: 0.0, score_sum: 0.0, max_score: 0.0, unused }
+    }
+
+    /// As the Rust's node has it. The unused moves are its state's `available_moves`.
+    pub fn of(node: &Node<CraftState>) -> Record {
+        Record {
+            parent: node.parent.unwrap_or(0) as u64,
+            action: node.state.action.map_or(NO_ACTION, |action| action as u8),
+            visits: node.state.visits,
+            score_sum: node.state.score_sum,
+            max_score: node.state.max_score,
+            unused: node.state.available_moves.bits(),
+        }
     }
 
     /// Three bytes behind the action and four at the end are padding.

@@ -91,7 +91,8 @@ module _ (c : CraftContext) (o : SearchOptions) (logs : List Float) (draws : Lis
 
     -- what is answered and left where no test failed
     settles : {r : Searched} {written : List ℕ}
-        → r ≡ settledBy (λ x. S.Refused x (progressOf grownTo)) (S.Found (progressOf grownTo) (foundOf c grownTo)) (pathTests grownTo (length out)) (grownTo .checked)
+        → r ≡ settledBy (λ x. S.Refused x (progressOf grownTo)) (S.Found (progressOf grownTo) (foundOf c grownTo)) (pathTests grownTo (length out))
+        (grownTo .checked)
         → written ≡ settledBy (λ x. out) (over out 0 (pathOf grownTo)) (pathTests grownTo (length out)) (grownTo .checked)
         → Searches c o logs draws nodes out r (grownTo .growth .nodes) written
     settles e f = answers (e ∙ judged-passed _ _ tests p) (judged-passed _ _ tests p) (f ∙ judged-passed _ _ tests p)

@@ -136,8 +136,8 @@ module _ (c : CraftContext) (o : SearchOptions) (logs : List Float) (draws : Lis
         here-is : {k : Checked} → grown .checked ≡ k → grown ≡ record { checked = k; iterations = grown .iterations; count = grown .count; at = grown .at }
         here-is q = rw (← q)
 
-        go : (k : Checked) → grown .checked ≡ k → isPassed k && ltb (grown .iterations) (o .iterations) ≡ false → outcomeFrom c o logs draws nodes ≡ ahead grown now k
-            → GrowsTo c o logs draws nodes grown now
+        go : (k : Checked) → grown .checked ≡ k → isPassed k && ltb (grown .iterations) (o .iterations) ≡ false
+            → outcomeFrom c o logs draws nodes ≡ ahead grown now k → GrowsTo c o logs draws nodes grown now
         go Passed q f e =
             let none : left grown ≡ 0 = omega (arith, ltb-false (grown .iterations) (o .iterations) f) in
             let is : outcomeFrom c o logs draws nodes ≡ record { growth = here grown now; iterations = grown .iterations; checked = Passed } = e ∙ rw none in

@@ -31,7 +31,8 @@ use Rattle.search.specs.declared.plan.Plan.{Plan}
 use Rattle.search.specs.declared.iterate.Turned.{Turned}
 use Rattle.search.specs.Select.{selectOf, stateAt}
 use Rattle.search.specs.Iterate.{scoreIn, isWorth, Growth, Turn, Goes, Stops, rolledOf, grownOf, turnBy, iterateOf}
-use Rattle.search.specs.inner.Ready.{Ready, chosenOf, refusedPlan, passedPlan, planBy, planOf, Drawable, Storing, Carried, stoppedBy, goneBy, turnedOf, recordsAfter, Turns}
+use Rattle.search.specs.inner.Ready.{Ready, chosenOf, refusedPlan, passedPlan, planBy, planOf, Drawable, Storing, Carried}
+use Rattle.search.specs.inner.Ready.{stoppedBy, goneBy, turnedOf, recordsAfter, Turns}
 use Rattle.search.specs.laws.Legal.{unused-set, unused-plain, grown-timely}
 use Rattle.search.specs.laws.Iterate.{storedBy, stored-most, Grows, selected-inside, rolled-place, rolls}
 
@@ -54,7 +55,8 @@ ended-drawable c {result} {end} (suc n) s moves at [] e h = go (eqb moves 0) e
     go true e = let there : at ≡ end = ended-there e in omega arith
     go false e = refused-never e
 ended-drawable c {result} {end} (suc n) s moves at (d ∷ draws) e h =
-    go (eqb moves 0) (ltb d (sizeOf moves)) refl e (λ rest. ended-drawable c n (drawnState c s moves d) (strictMoves c (drawnState c s moves d)) (at + 1) draws rest (omega arith))
+    go (eqb moves 0) (ltb d (sizeOf moves)) refl e
+    (λ rest. ended-drawable c n (drawnState c s moves d) (strictMoves c (drawnState c s moves d)) (at + 1) draws rest (omega arith))
   where
     later : Rolled
     later = rolledFrom c (drawnState c s moves d) (strictMoves c (drawnState c s moves d)) (at + 1) draws
@@ -62,7 +64,8 @@ ended-drawable c {result} {end} (suc n) s moves at (d ∷ draws) e h =
     Rest : Type 0
     Rest = Drawable c (drawnState c s moves d) (strictMoves c (drawnState c s moves d)) n draws
 
-    go : (none low : Bool) → ltb d (sizeOf moves) ≡ low → cond none (L.Ended (judgedBy c s moves) at) (cond low later (L.Refused DrawTooHigh)) ≡ L.Ended result end
+    go : (none low : Bool) → ltb d (sizeOf moves) ≡ low
+        → cond none (L.Ended (judgedBy c s moves) at) (cond low later (L.Refused DrawTooHigh)) ≡ L.Ended result end
         → (later ≡ L.Ended result end → Rest) → (d < sizeOf moves) × Rest
     go true low q e rest = let there : at ≡ end = ended-there e in absurd (omega arith)
     go false true q e rest = (ltb-true d (sizeOf moves) q, rest e)
@@ -134,7 +137,8 @@ module _ (c : CraftContext) (o : SearchOptions) (logs : List Float) (draws : Lis
           n : ℕ
           n = stored result end
 
-          fits : (t : Bool) → leb (count + n) (length nodes) ≡ t → isPassed (cond t (passedPlan result end n) (refusedPlan (NoRoom (count + n))) .checked) ≡ true → Passes
+          fits : (t : Bool) → leb (count + n) (length nodes) ≡ t
+              → isPassed (cond t (passedPlan result end n) (refusedPlan (NoRoom (count + n))) .checked) ≡ true → Passes
           fits true f e = record {
             result = result;
             end = end;
@@ -206,7 +210,8 @@ module _ (c : CraftContext) (o : SearchOptions) (logs : List Float) (draws : Lis
     chosen-plan root-is long q = q ∙ rw (n-is, root-is, ← long, e)
 
   module _ {p : Plan} (q : p ≡ plan c o logs draws nodes count at) where
-    pub plan-refused : isPassed (p .checked) ≡ false → {r : Turned} → r ≡ stoppedBy p count at → Turns nodes count at (turn c o logs draws nodes count at) r nodes links
+    pub plan-refused : isPassed (p .checked) ≡ false → {r : Turned} → r ≡ stoppedBy p count at
+        → Turns nodes count at (turn c o logs draws nodes count at) r nodes links
     plan-refused fell r-is =
         let stops = plan-stops c o logs draws nodes count at (rw q at fell) in
         record { answer = r-is ∙ ap (λ (x : Plan). stoppedBy x count at) q ∙ stops .0; records = stops .1; links = rw r-is (ready .index) }
