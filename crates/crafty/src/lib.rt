@@ -1,5 +1,5 @@
 // The public face of the engine. Every entry takes any numbers and bytes, and refuses what is outside the limits by document 01's numbers.
-// The entries over sets and contexts are the methods of `ActionSet` and `CraftContext`; a craft starts by `CraftState::new`; those over a tree are the crate `tree`'s.
+// The entries over sets and contexts are the methods of `ActionSet` and `CraftContext`; a craft starts by `CraftState::new`; those over a tree are the crate `tree`'s, and the search is the crate `search`'s.
 mod actions;
 mod lists;
 mod program;
@@ -53,6 +53,11 @@ pub use replays::Replayed;
 pub use replays::replay;
 pub use room::Written;
 pub use score::CraftResult;
+pub use search::Found;
+pub use search::Progress;
+pub use search::SearchOptions;
+pub use search::Searched;
+pub use search::search;
 pub use simulator::Replay;
 pub use states::Allowed;
 pub use states::Judged;

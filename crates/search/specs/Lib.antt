@@ -2,5 +2,6 @@ pub mod Options
 pub mod Select
 pub mod Iterate
 pub mod Search
+pub mod Demands
 pub mod inner
 pub mod laws

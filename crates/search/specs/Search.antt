@@ -102,9 +102,19 @@ module _ (c : CraftContext) (o : SearchOptions) (logs : List Float) (draws : Lis
       (settledBy (λ x. S.Refused x (progressOf grown)) (S.Found (progressOf grown) (foundOf c grown)) (pathTests grown (length out)) (grown .checked))
       (askedTests nodes logs c o)
 
-  -- the answer, the records at exit, and the room: what an accepted iteration stored stands, and a path is written by a search that was refused nothing
+  -- the records at exit: what an accepted iteration stored stands
+  abbrev pub recordsOf : List Node
+  recordsOf = judged (λ x. nodes) (grown .growth .nodes) (askedTests nodes logs c o)
+
+  -- the room at exit: a path is written by a search that was refused nothing
+  abbrev pub roomOf : List ℕ
+  roomOf =
+      judged (λ x. out)
+      (settledBy (λ x. out) (over out 0 (pathOf grown)) (pathTests grown (length out)) (grown .checked))
+      (askedTests nodes logs c o)
+
   pub record Searches (r : Searched) (after : List Node) (written : List ℕ) : Type 0 where
     pub number : searchedTold r ≡ searchedTold searchedOf
     pub same : r ≡ searchedOf
-    pub records : after ≡ judged (λ x. nodes) (grown .growth .nodes) (askedTests nodes logs c o)
-    pub room : written ≡ judged (λ x. out) (settledBy (λ x. out) (over out 0 (pathOf grown)) (pathTests grown (length out)) (grown .checked)) (askedTests nodes logs c o)
+    pub records : after ≡ recordsOf
+    pub room : written ≡ roomOf

@@ -19,7 +19,9 @@ pub mod Touched
 pub mod Iterate
 pub mod Path
 pub mod Search
+pub mod Late
 pub mod Answer
+pub mod Demands
 pub mod Storing
 pub mod Planned
 pub mod Going

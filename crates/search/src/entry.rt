@@ -31,7 +31,7 @@ pub struct Progress {
 }
 
 impl Progress {
-    pub fn none() -> Progress
+    fn none() -> Progress
         ensures { λ r. ⌜ r ≡ noProgress ⌝ }
     {
         Progress {

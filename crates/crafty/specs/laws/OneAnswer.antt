@@ -33,6 +33,10 @@ use Rattle.tree.specs.Grow.{Changes, Plants, Inserts, Looks}
 use Rattle.tree.specs.laws.Grow.{one-change}
 use Rattle.tree.specs.Back.{Propagates}
 use Rattle.tree.specs.Paths.{Lists, Solves}
+use Rattle.search.specs.declared.options.SearchOptions.{SearchOptions}
+use Rattle.search.specs.Search.{Searches}
+use Rattle.search.specs.Demands.{OneOutcomes}
+use Rattle.search.specs.laws.Demands.{search-outcomes}
 use Rattle.crafty.specs.Actions.{HasAttributes, HasPrice, HasWait, HasText, FromName}
 use Rattle.crafty.specs.States.{HasMoves, Steps, HasResult, HasScore, HasLine}
 use Rattle.crafty.specs.Replays.{Replays}
@@ -194,6 +198,12 @@ one-Node-new parent action unused = equals
 
 pub one-Node-root : (unused : ℕ) → OneAnswer (λ (r : Node). r ≡ rootNode unused)
 one-Node-root unused = equals
+
+-- ---- the search, which lends records and room
+
+pub one-search : (context : CraftContext) (options : SearchOptions) (logs : List Float) (draws : List ℕ) (nodes : List Node) (out : List ℕ)
+    → OneOutcomes (Searches context options logs draws nodes out)
+one-search context options logs draws nodes out = search-outcomes
 
 -- ---- a refusal's number and value
 

@@ -27,6 +27,10 @@ use Rattle.tree.specs.Grow.{planted, inserted, recorded, Plants, Inserts, Looks
 use Rattle.tree.specs.laws.Grow.{changes-refuses}
 use Rattle.tree.specs.Back.{propagated, Propagates}
 use Rattle.tree.specs.Paths.{listed, solved, Lists, Solves}
+use Rattle.search.specs.declared.options.SearchOptions.{SearchOptions}
+use Rattle.search.specs.Search.{askedTests, searchedTold, Searches}
+use Rattle.search.specs.Demands.{RefusesInPart}
+use Rattle.search.specs.laws.Demands.{search-refuses}
 use Rattle.crafty.specs.Room.{written}
 use Rattle.crafty.specs.Actions.{attributed, priced, timed, named, HasAttributes, HasPrice, HasWait, HasText, FromName}
 use Rattle.crafty.specs.States.{allowed, stepped, resulted, scored, HasMoves, Steps, HasResult, HasScore, HasLine}
@@ -161,3 +165,10 @@ total-backpropagate nodes count start target score = changes-refuses
 
 pub total-solution : (nodes : List Node) (count : ℕ) (out : List ℕ) → RefusesWhole solved (7 ∷ 6 ∷ []) out (Solves nodes count out)
 total-solution nodes count out = writes-refuses
+
+-- ---- the search: document 02's exceptions to demand 1. Where an iteration or the path's room is refused, the iterations before stand
+
+pub total-search : (context : CraftContext) (options : SearchOptions) (logs : List Float) (draws : List ℕ) (nodes : List Node) (out : List ℕ)
+    → RefusesInPart searchedTold (1 ∷ 21 ∷ 6 ∷ 19 ∷ 20 ∷ []) (6 ∷ 19 ∷ 20 ∷ []) (askedTests nodes logs context options) nodes out
+    (Searches context options logs draws nodes out)
+total-search context options logs draws nodes out = search-refuses

@@ -1,0 +1,59 @@
+-- The entry's statement has one answer, and by which numbers it refuses: 1, 21 and 6 with nothing written, and then 6, 19 and 20 with no path written.
+-- Assumes nothing.
+use mathlib.Core.Path.{_≡_, refl, sym, ap, subst, _∙_}
+use mathlib.Core.List.{List, [], _∷_}
+use mathlib.Core.Logic.{_⊎_, inl, inr}
+use Prim.Native.Nat.{ℕ}
+use lib.Ieee.{Float}
+use Rattle.refusal.specs.declared.Refusal.{Refusal}
+use Rattle.refusal.specs.declared.Report.{Report}
+use Rattle.refusal.specs.declared.Checked.the-variants.{Passed, Refused}
+use Rattle.refusal.specs.Judge.{checksOf}
+use Rattle.refusal.specs.Demands.{numberOf, Among}
+use Rattle.refusal.specs.laws.Judge.{checks}
+use Rattle.refusal.specs.laws.Demands.{number-among}
+use Rattle.craft_context.specs.declared.context.CraftContext.{CraftContext}
+use Rattle.tree.specs.declared.node.Node.{Node}
+use Rattle.search.specs.declared.options.SearchOptions.{SearchOptions}
+use Rattle.search.specs.declared.entry.Searched.{Searched}
+use Rattle.search.specs.Search.{askedTests, searchedTold, searchedOf, recordsOf, roomOf, Searches}
+use Rattle.search.specs.Demands.{OneOutcomes, RefusesInPart}
+use Rattle.search.specs.laws.Late.{Late}
+use Rattle.search.specs.laws.Answer.{Away, Stopped, Whole, ways}
+
+-- the numbers of the first tests, and those of what comes later, are among all
+first-among : {n : ℕ} → Among (1 ∷ 21 ∷ 6 ∷ []) n → Among (1 ∷ 21 ∷ 6 ∷ 19 ∷ 20 ∷ []) n
+first-among (inl e) = inl e
+first-among (inr (inl e)) = inr (inl e)
+first-among (inr (inr (inl e))) = inr (inr (inl e))
+first-among (inr (inr (inr e))) = inr (inr (inr (inr (inr e))))
+
+first-number : (c : CraftContext) (o : SearchOptions) (logs : List Float) (nodes : List Node) {x : Refusal}
+    → Refused x ≡ checksOf (askedTests nodes logs c o) → Among (1 ∷ 21 ∷ 6 ∷ []) (numberOf x)
+first-number c o logs nodes e = number-among (checks (askedTests nodes logs c o) e)
+
+module _ {c : CraftContext} {o : SearchOptions} {logs : List Float} {draws : List ℕ} {nodes : List Node} {out : List ℕ} where
+  pub search-outcomes : OneOutcomes (Searches c o logs draws nodes out)
+  search-outcomes r s after later written put a b = (a .same ∙ sym (b .same), a .records ∙ sym (b .records), a .room ∙ sym (b .room))
+
+  pub search-refuses : RefusesInPart searchedTold (1 ∷ 21 ∷ 6 ∷ 19 ∷ 20 ∷ []) (6 ∷ 19 ∷ 20 ∷ []) (askedTests nodes logs c o) nodes out
+      (Searches c o logs draws nodes out)
+  search-refuses r after written s = go (ways c o logs draws nodes out s)
+    where
+      number : {q : Searched} → r ≡ q → searchedTold q .0 ≡ searchedTold r .0
+      number e = ap (λ (q : Searched). searchedTold q .0) (sym e)
+
+      go : Away c o logs draws nodes out r after written ⊎ (Stopped c o logs draws nodes out r after written ⊎ Whole c o logs draws nodes out r after written)
+          → Among (1 ∷ 21 ∷ 6 ∷ 19 ∷ 20 ∷ []) (searchedTold r .0)
+          × ((searchedTold r .0 ≡ 0 → ⊥) → written ≡ out)
+          × ((Passed ≡ checksOf (askedTests nodes logs c o) → ⊥) → after ≡ nodes)
+          × (Among (6 ∷ 19 ∷ 20 ∷ []) (searchedTold r .0) ⊎ (after ≡ nodes))
+      go (inl a) =
+          let is : Among (1 ∷ 21 ∷ 6 ∷ 19 ∷ 20 ∷ []) (searchedTold r .0) = subst (Among (1 ∷ 21 ∷ 6 ∷ 19 ∷ 20 ∷ [])) (number (a .answer)) (first-among (first-number c o logs nodes (a .failed))) in
+          (is, (λ _. a .room), (λ _. a .records), inr (a .records))
+      go (inr (inl a)) =
+          let is : Among (6 ∷ 19 ∷ 20 ∷ []) (searchedTold r .0) = subst (Among (6 ∷ 19 ∷ 20 ∷ [])) (number (a .answer)) (a .late) in
+          (inr (inr is), (λ _. a .room), (λ no. absurd (no (a .passed))), inl is)
+      go (inr (inr a)) =
+          let is : searchedTold r .0 ≡ 0 = sym (number (a .answer)) in
+          (inr (inr (inr (inr (inr is)))), (λ no. absurd (no is)), (λ no. absurd (no (a .passed))), inl (inr (inr (inr is))))
