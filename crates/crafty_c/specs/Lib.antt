@@ -3,4 +3,5 @@ pub mod Numbers
 pub mod Reports
 pub mod Texts
 pub mod Trees
+pub mod Searches
 pub mod laws

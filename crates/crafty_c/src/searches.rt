@@ -1,44 +1,25 @@
-// The search.
+// The search of a craft, on records, logarithms, draws and room that a host lends.
+ghost use mathlib.Core.Path.{_≡_};
+ghost use mathlib.Core.List.{[], _∷_};
+ghost use Rattle.context_line.specs.inner.Fields.{listed};
+ghost use Rattle.crafty_c.specs.Searches.{stoppedOf, outsideOf, foundAt, toldOf, TellsSearched};
 use super::answer::refused;
-use super::numbers::combo_number;
-use super::numbers::flag;
-use super::numbers::last_number;
-use super::numbers::perfection_number;
-use super::numbers::word;
+use super::numbers::CraftyState;
+use super::numbers::no_state;
+use super::numbers::state_numbers;
 use context_line::Fields;
 use context_line::Read;
 use craft_context::CraftContext;
-use craft_state::CraftState;
 use craft_state::fresh;
 use refusal::Refusal;
+use search::Found;
 use search::Progress;
 use search::SearchOptions;
 use search::Searched;
 use search::search;
 use tree::Node;
 
-// A state's numbers, in the order that include/crafty.h gives.
-#[repr(C)]
-pub struct CraftyState {
-    pub step: u32,
-    pub progress: u32,
-    pub quality: u32,
-    pub durability: u32,
-    pub cp: u32,
-    pub combo: u32,
-    pub quick_innovation: u32,
-    pub trained_perfection: u32,
-    pub inner_quiet: u32,
-    pub waste_not: u32,
-    pub waste_not_ii: u32,
-    pub manipulation: u32,
-    pub great_strides: u32,
-    pub innovation: u32,
-    pub veneration: u32,
-    pub muscle_memory: u32,
-    pub last_action: u32,
-}
-
+// What `crafty_search` answers: beside the number and value, what was done, the path's length, its last node, and the state there.
 #[repr(C)]
 pub struct CraftyFound {
     pub number: u32,
@@ -51,71 +32,81 @@ pub struct CraftyFound {
     pub state: CraftyState,
 }
 
-fn state_numbers(state: CraftState) -> CraftyState {
-    let buffs = state.buffs;
-    CraftyState {
-        step: state.step as u32,
-        progress: state.progress,
-        quality: state.quality,
-        durability: word(state.durability),
-        cp: state.cp,
-        combo: combo_number(state.previous_combo_action),
-        quick_innovation: flag(state.quick_innovation_available),
-        trained_perfection: perfection_number(state.trained_perfection_active),
-        inner_quiet: buffs.inner_quiet as u32,
-        waste_not: buffs.waste_not as u32,
-        waste_not_ii: buffs.waste_not_ii as u32,
-        manipulation: buffs.manipulation as u32,
-        great_strides: buffs.great_strides as u32,
-        innovation: buffs.innovation as u32,
-        veneration: buffs.veneration as u32,
-        muscle_memory: buffs.muscle_memory as u32,
-        last_action: last_number(state.action),
+// A refusal tells no path.
+fn stopped(x: Refusal, progress: Progress, state: CraftyState) -> CraftyFound
+    ensures { λ r. ⌜ r ≡ stoppedOf x progress state ⌝ }
+{
+    let answer = refused(x);
+    CraftyFound {
+        number: answer.number,
+        iterations: progress.iterations,
+        value: answer.value,
+        records: progress.records,
+        draws: progress.draws,
+        path: 0,
+        node: 0,
+        state,
     }
 }
 
-fn no_state() -> CraftyState {
-    CraftyState {
-        step: 0,
-        progress: 0,
-        quality: 0,
-        durability: 0,
-        cp: 0,
-        combo: 0,
-        quick_innovation: 0,
-        trained_perfection: 0,
-        inner_quiet: 0,
-        waste_not: 0,
-        waste_not_ii: 0,
-        manipulation: 0,
-        great_strides: 0,
-        innovation: 0,
-        veneration: 0,
-        muscle_memory: 0,
-        last_action: 0,
+// No context, so no start.
+fn outside(x: Refusal) -> CraftyFound
+    ensures { λ r. ⌜ r ≡ outsideOf x ⌝ }
+{
+    let none = Progress {
+        iterations: 0,
+        records: 0,
+        draws: 0,
+    };
+    stopped(x, none, no_state())
+}
+
+fn found_at(progress: Progress, found: Found) -> CraftyFound
+    ensures { λ r. ⌜ r ≡ foundAt progress found ⌝ }
+{
+    let state = state_numbers(found.state);
+    CraftyFound {
+        number: 0,
+        iterations: progress.iterations,
+        value: 0,
+        records: progress.records,
+        draws: progress.draws,
+        path: found.path,
+        node: found.last,
+        state,
     }
 }
 
-fn stopped(x: Refusal, p: Progress, state: CraftyState) -> CraftyFound {
-    let a = refused(x);
-    CraftyFound { number: a.number, iterations: p.iterations, value: a.value, records: p.records, draws: p.draws, path: 0, node: 0, state }
-}
-
-fn told(context: CraftContext, searched: Searched) -> CraftyFound {
+fn told(context: CraftContext, searched: Searched) -> CraftyFound
+    ensures { λ r. ⌜ r ≡ toldOf context searched ⌝ }
+{
     match searched {
-        Searched::Found(p, f) => CraftyFound {
-            number: 0, iterations: p.iterations, value: 0, records: p.records, draws: p.draws, path: f.path, node: f.last,
-            state: state_numbers(f.state),
-        },
-        Searched::Refused(x, p) => stopped(x, p, state_numbers(fresh(context))),
+        Searched::Found(progress, found) => found_at(progress, found),
+        Searched::Refused(x, progress) => {
+            let start = fresh(context);
+            stopped(x, progress, state_numbers(start))
+        }
     }
 }
 
-fn search_in(nodes: &mut [Node], logs: &[f32], draws: &[u8], out: &mut [u8], fields: Fields, options: SearchOptions) -> CraftyFound {
-    let read = context_line::from_fields(fields);
+// In a context given by the numbers of its fields.
+fn search_in(
+    nodes: &mut [Node],
+    logs: &[f32],
+    draws: &[u8],
+    out: &mut [u8],
+    numbers: Fields,
+    options: SearchOptions,
+) -> CraftyFound
+    ensures { λ r. ⌜ TellsSearched (listed numbers) options (now (logs .entry)) (now (draws .entry)) (now (nodes .entry)) (now (out .entry)) r (now (nodes .exit)) (now (out .exit)) ⌝ }
+{
+    let read = context_line::from_fields(numbers);
     match read {
-        Read::Context(context) => told(context, search(nodes, logs, draws, out, context, options)),
-        Read::Refused(x) => stopped(x, Progress { iterations: 0, records: 0, draws: 0 }, no_state()),
+        Read::Context(context) => {
+            let searched = search(nodes, logs, draws, out, context, options);
+            told(context, searched)
+        }
+        Read::Refused(x) => outside(x),
     }
 }
 
@@ -144,8 +135,10 @@ pub extern "C" fn crafty_search(
     score_storage_threshold: f32,
     max_score_weighting_constant: f32,
     exploration_constant: f32,
-) -> CraftyFound {
-    let fields = Fields {
+) -> CraftyFound
+    ensures { λ r. ⌜ TellsSearched («player_job_level» ∷ «recipe_job_level» ∷ «base_progress_factor» ∷ «base_quality_factor» ∷ «step_max» ∷ «progress_target» ∷ «starting_quality» ∷ «quality_target» ∷ «durability_max» ∷ «cp_max» ∷ «is_expert» ∷ «action_pool» ∷ «player_is_specialist» ∷ «use_manipulation» ∷ «use_delineation» ∷ []) (record { iterations = iterations; «score_storage_threshold» = «score_storage_threshold»; «max_score_weighting_constant» = «max_score_weighting_constant»; «exploration_constant» = «exploration_constant» }) (now (logs .entry)) (now (draws .entry)) (now (nodes .entry)) (now (out .entry)) r (now (nodes .exit)) (now (out .exit)) ⌝ }
+{
+    let numbers = Fields {
         player_job_level,
         recipe_job_level,
         base_progress_factor,
@@ -162,6 +155,11 @@ pub extern "C" fn crafty_search(
         use_manipulation,
         use_delineation,
     };
-    let options = SearchOptions { iterations, score_storage_threshold, max_score_weighting_constant, exploration_constant };
-    search_in(nodes, logs, draws, out, fields, options)
+    let options = SearchOptions {
+        iterations,
+        score_storage_threshold,
+        max_score_weighting_constant,
+        exploration_constant,
+    };
+    search_in(nodes, logs, draws, out, numbers, options)
 }
