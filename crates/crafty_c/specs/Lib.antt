@@ -4,4 +4,5 @@ pub mod Reports
 pub mod Texts
 pub mod Trees
 pub mod Searches
+pub mod inner
 pub mod laws

@@ -3,6 +3,7 @@ ghost use mathlib.Core.Path.{_≡_};
 ghost use mathlib.Core.List.{[], _∷_};
 ghost use Rattle.context_line.specs.inner.Fields.{listed};
 ghost use Rattle.crafty_c.specs.Searches.{stoppedOf, outsideOf, foundAt, toldOf, TellsSearched};
+ghost use Rattle.crafty_c.specs.inner.Searches.{FindsIn};
 use super::answer::refused;
 use super::numbers::CraftyState;
 use super::numbers::no_state;
@@ -89,6 +90,20 @@ fn told(context: CraftContext, searched: Searched) -> CraftyFound
     }
 }
 
+fn found_in(
+    nodes: &mut [Node],
+    logs: &[f32],
+    draws: &[u8],
+    out: &mut [u8],
+    context: CraftContext,
+    options: SearchOptions,
+) -> CraftyFound
+    ensures { λ r. ⌜ FindsIn context options (now (logs .entry)) (now (draws .entry)) (now (nodes .entry)) (now (out .entry)) r (now (nodes .exit)) (now (out .exit)) ⌝ }
+{
+    let searched = search(nodes, logs, draws, out, context, options);
+    told(context, searched)
+}
+
 // In a context given by the numbers of its fields.
 fn search_in(
     nodes: &mut [Node],
@@ -103,10 +118,11 @@ fn search_in(
     let read = context_line::from_fields(numbers);
     match read {
         Read::Context(context) => {
-            let searched = search(nodes, logs, draws, out, context, options);
-            told(context, searched)
+            return found_in(nodes, logs, draws, out, context, options);
         }
-        Read::Refused(x) => outside(x),
+        Read::Refused(x) => {
+            return outside(x);
+        }
     }
 }
 

@@ -28,6 +28,7 @@ use Rattle.search.specs.Demands.{OneOutcomes, RefusesInPart}
 use Rattle.search.specs.laws.Demands.{search-refuses}
 use Rattle.crafty_c.specs.declared.searches.CraftyFound.{CraftyFound}
 use Rattle.crafty_c.specs.Searches.{outsideOf, toldOf, foundTold, firstTests, TellsSearched}
+use Rattle.crafty_c.specs.inner.Searches.{FindsIn}
 use Rattle.crafty_c.specs.laws.Answer.{report-in}
 
 found-number : (c : CraftContext) (r : Searched) → foundTold (toldOf c r) ≡ searchedTold r
@@ -35,6 +36,11 @@ found-number c (S.Found progress found) = refl
 found-number c (S.Refused x progress) = report-in x
 
 -- ---- the ways out, as the code takes them
+
+pub finds-in : (c : CraftContext) (o : SearchOptions) (logs : List Float) (draws : List ℕ) (nodes : List Node) (out : List ℕ)
+    {r : Searched} {after : List Node} {written : List ℕ} → Searches c o logs draws nodes out r after written → {t : CraftyFound} → t ≡ toldOf c r
+    → FindsIn c o logs draws nodes out t after written
+finds-in c o logs draws nodes out s e = record { same = e ∙ ap (toldOf c) (s .same); records = s .records; room = s .room }
 
 module _ (values : List ℕ) (o : SearchOptions) (logs : List Float) (draws : List ℕ) (nodes : List Node) (out : List ℕ) where
   outside-told : {x : Refusal} → Refused x ≡ checksOf (numberTests values) → TellsSearched values o logs draws nodes out (outsideOf x) nodes out
@@ -47,14 +53,13 @@ module _ (values : List ℕ) (o : SearchOptions) (logs : List Float) (draws : Li
         room = judged-refused (λ y. out) _ tests e;
       }
 
-  inside-told : Passed ≡ checksOf (numberTests values) → {r : Searched} {after : List Node} {written : List ℕ}
-      → Searches (contextOf values) o logs draws nodes out r after written
-      → TellsSearched values o logs draws nodes out (toldOf (contextOf values) r) after written
-  inside-told p {r} s =
+  inside-told : Passed ≡ checksOf (numberTests values) → {t : CraftyFound} {after : List Node} {written : List ℕ}
+      → FindsIn (contextOf values) o logs draws nodes out t after written → TellsSearched values o logs draws nodes out t after written
+  inside-told p s =
       let tests = numberTests values in
       record {
-        number = found-number (contextOf values) r ∙ s .number ∙ judged-passed reportOf _ tests p;
-        same = ap (toldOf (contextOf values)) (s .same) ∙ judged-passed outsideOf _ tests p;
+        number = ap foundTold (s .same) ∙ found-number (contextOf values) (searchedOf (contextOf values) o logs draws nodes out) ∙ judged-passed reportOf _ tests p;
+        same = s .same ∙ judged-passed outsideOf _ tests p;
         records = s .records ∙ judged-passed (λ y. nodes) _ tests p;
         room = s .room ∙ judged-passed (λ y. out) _ tests p;
       }
@@ -66,11 +71,11 @@ module _ (values : List ℕ) (o : SearchOptions) (logs : List Float) (draws : Li
 
   -- one is read, and the search in it answers
   pub searched-told : {c : CraftContext} → Says read (numberTests values) (R.Context (contextOf values)) (R.Context c)
-      → {r : Searched} {after : List Node} {written : List ℕ} → Searches c o logs draws nodes out r after written
-      → {t : CraftyFound} → t ≡ toldOf c r → TellsSearched values o logs draws nodes out t after written
-  searched-told {c} s {r} {after} {written} h e =
+      → {t : CraftyFound} {after : List Node} {written : List ℕ} → FindsIn c o logs draws nodes out t after written
+      → TellsSearched values o logs draws nodes out t after written
+  searched-told {c} s {t} {after} {written} h =
       let shown = read-context s in
-      rw (e, shown .0) (inside-told (shown .1) (subst (λ (x : CraftContext). Searches x o logs draws nodes out r after written) (shown .0) h))
+      inside-told (shown .1) (subst (λ (x : CraftContext). FindsIn x o logs draws nodes out t after written) (shown .0) h)
 
 -- ---- one answer, and the refusals
 
