@@ -117,12 +117,8 @@ fn search_in(
 {
     let read = context_line::from_fields(numbers);
     match read {
-        Read::Context(context) => {
-            return found_in(nodes, logs, draws, out, context, options);
-        }
-        Read::Refused(x) => {
-            return outside(x);
-        }
+        Read::Context(context) => found_in(nodes, logs, draws, out, context, options),
+        Read::Refused(x) => outside(x),
     }
 }
 
