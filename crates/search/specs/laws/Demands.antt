@@ -1,12 +1,11 @@
 -- The entry's statement has one answer, and by which numbers it refuses: 1, 21 and 6 with nothing written, and then 6, 19 and 20 with no path written.
 -- Assumes nothing.
-use mathlib.Core.Path.{_≡_, refl, sym, ap, subst, _∙_}
+use mathlib.Core.Path.{_≡_, sym, ap, subst, _∙_}
 use mathlib.Core.List.{List, [], _∷_}
 use mathlib.Core.Logic.{_⊎_, inl, inr}
 use Prim.Native.Nat.{ℕ}
 use lib.Ieee.{Float}
 use Rattle.refusal.specs.declared.Refusal.{Refusal}
-use Rattle.refusal.specs.declared.Report.{Report}
 use Rattle.refusal.specs.declared.Checked.the-variants.{Passed, Refused}
 use Rattle.refusal.specs.Judge.{checksOf}
 use Rattle.refusal.specs.Demands.{numberOf, Among}
@@ -16,9 +15,8 @@ use Rattle.craft_context.specs.declared.context.CraftContext.{CraftContext}
 use Rattle.tree.specs.declared.node.Node.{Node}
 use Rattle.search.specs.declared.options.SearchOptions.{SearchOptions}
 use Rattle.search.specs.declared.entry.Searched.{Searched}
-use Rattle.search.specs.Search.{askedTests, searchedTold, searchedOf, recordsOf, roomOf, Searches}
+use Rattle.search.specs.Search.{askedTests, searchedTold, Searches}
 use Rattle.search.specs.Demands.{OneOutcomes, RefusesInPart}
-use Rattle.search.specs.laws.Late.{Late}
 use Rattle.search.specs.laws.Answer.{Away, Stopped, Whole, ways}
 
 -- the numbers of the first tests, and those of what comes later, are among all

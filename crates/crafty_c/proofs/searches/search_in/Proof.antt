@@ -3,9 +3,7 @@
 use contract.Running.{tablesOf}
 use denote.Laws.{Is}
 use denote.Enum.Laws as EE
-use Rattle.refusal.specs.declared.Refusal.{Refusal}
 use Rattle.refusal.proofs.Refusal as F
-use Rattle.craft_context.specs.declared.context.CraftContext.{CraftContext}
 use Rattle.craft_context.proofs.context.CraftContext as C
 use Rattle.context_line.specs.declared.fields.Read.the-variants.{Context, Refused}
 use Rattle.context_line.specs.inner.Fields.{listed}
