@@ -4,8 +4,10 @@ use mathlib.Core.Path.{_≡_, refl, sym, ap, subst, _∙_}
 use mathlib.Core.List.{List, [], _∷_}
 use mathlib.Core.Logic.{_⊎_, inl, inr}
 use Prim.Native.Nat.{ℕ}
+use native.Mathlib.Omega.{arith}
 use lib.Ieee.{Float}
 use Rattle.refusal.specs.declared.Refusal.{Refusal}
+use Rattle.refusal.specs.declared.Refusal.the-variants as X
 use Rattle.refusal.specs.declared.Report.{Report}
 use Rattle.refusal.specs.declared.Checked.{Checked}
 use Rattle.refusal.specs.declared.Checked.the-variants.{Passed, Refused}
@@ -15,9 +17,11 @@ use Rattle.refusal.specs.Demands.{numberOf, Among}
 use Rattle.refusal.specs.laws.Judge.{judged-passed, judged-refused, checks, checks-on-by}
 use Rattle.refusal.specs.laws.Demands.{number-among}
 use Rattle.craft_context.specs.declared.context.CraftContext.{CraftContext}
+use Rattle.craft_context.specs.laws.Limits.{context-passes}
 use Rattle.context_line.specs.declared.fields.Read.the-variants as R
 use Rattle.context_line.specs.Fields.{contextOf, numberTests}
 use Rattle.context_line.specs.Read.{read}
+use Rattle.context_line.specs.laws.Fields.{passed-taken}
 use Rattle.context_line.specs.laws.Read.{read-context, read-refused}
 use Rattle.tree.specs.declared.node.Node.{Node}
 use Rattle.search.specs.declared.options.SearchOptions.{SearchOptions}
@@ -25,7 +29,7 @@ use Rattle.search.specs.declared.entry.Searched.{Searched}
 use Rattle.search.specs.declared.entry.Searched.the-variants as S
 use Rattle.search.specs.Search.{askedTests, searchedTold, searchedOf, recordsOf, roomOf, Searches}
 use Rattle.search.specs.Demands.{OneOutcomes, RefusesInPart}
-use Rattle.search.specs.laws.Demands.{search-refuses}
+use Rattle.search.specs.laws.Demands.{search-refuses, inside-number}
 use Rattle.crafty_c.specs.declared.searches.CraftyFound.{CraftyFound}
 use Rattle.crafty_c.specs.Searches.{outsideOf, toldOf, foundTold, firstTests, TellsSearched}
 use Rattle.crafty_c.specs.inner.Searches.{FindsIn}
@@ -121,3 +125,49 @@ module _ {values : List ℕ} {o : SearchOptions} {logs : List Float} {draws : Li
               → Among (6 ∷ 19 ∷ 20 ∷ []) (foundTold r .0) ⊎ (after ≡ nodes)
           later (inl a) = inl (subst (λ (report : Report). Among (6 ∷ 19 ∷ 20 ∷ []) (report .0)) (sym (s .number ∙ sym (judged-passed reportOf _ (numberTests values) e))) a)
           later (inr same) = inr (s .records ∙ sym (judged-passed (λ y. nodes) _ (numberTests values) e) ∙ same)
+
+-- ---- refusal 1 comes of the numbers alone, and then all else is 0
+
+outside-is : (x : Refusal) → numberOf x ≡ 1 → x ≡ X.OutsideLimits
+outside-is X.OutsideLimits e = refl
+outside-is X.StateOutOfRange e = absurd (omega arith)
+outside-is (X.UnknownAction place) e = absurd (omega arith)
+outside-is X.IllegalAction e = absurd (omega arith)
+outside-is (X.UnknownWord offset) e = absurd (omega arith)
+outside-is (X.NoRoom needed) e = absurd (omega arith)
+outside-is X.UnsoundTree e = absurd (omega arith)
+outside-is X.UnknownNode e = absurd (omega arith)
+outside-is X.NotAbove e = absurd (omega arith)
+outside-is X.BadScore e = absurd (omega arith)
+outside-is X.VisitsFull e = absurd (omega arith)
+outside-is X.MalformedLine e = absurd (omega arith)
+outside-is X.TooLong e = absurd (omega arith)
+outside-is X.NoDraw e = absurd (omega arith)
+outside-is X.DrawTooHigh e = absurd (omega arith)
+outside-is X.BadSearch e = absurd (omega arith)
+
+never-1 : {n : ℕ} → Among (21 ∷ 6 ∷ 19 ∷ 20 ∷ []) n → n ≡ 1 → ⊥
+never-1 (inl e) one = omega arith
+never-1 (inr (inl e)) one = omega arith
+never-1 (inr (inr (inl e))) one = omega arith
+never-1 (inr (inr (inr (inl e)))) one = omega arith
+never-1 (inr (inr (inr (inr e)))) one = omega arith
+
+pub outside-zero : (values : List ℕ) (o : SearchOptions) (logs : List Float) (draws : List ℕ) (nodes : List Node) (out : List ℕ)
+    {r : CraftyFound} {after : List Node} {written : List ℕ} → TellsSearched values o logs draws nodes out r after written → r .number ≡ 1
+    → r ≡ outsideOf X.OutsideLimits
+outside-zero values o logs draws nodes out {r} s one = by (checksOf (numberTests values)) refl
+  where
+    c : CraftContext
+    c = contextOf values
+
+    by : (k : Checked) → k ≡ checksOf (numberTests values) → r ≡ outsideOf X.OutsideLimits
+    by (Refused x) e =
+        let told : foundTold r ≡ reportOf x = s .number ∙ sym (judged-refused reportOf _ (numberTests values) e) in
+        let is : x ≡ X.OutsideLimits = outside-is x (sym (ap (λ (report : Report). report .0) told) ∙ one) in
+        s .same ∙ sym (judged-refused outsideOf _ (numberTests values) e) ∙ ap outsideOf is
+    by Passed e =
+        let told : foundTold r ≡ searchedTold (searchedOf c o logs draws nodes out) = s .number ∙ sym (judged-passed reportOf _ (numberTests values) e) in
+        let inside = context-passes c (passed-taken values e .inside) in
+        let number = inside-number c o logs draws nodes out (sym inside) (record { number = refl; same = refl; records = refl; room = refl }) in
+        absurd (never-1 number (sym (ap (λ (report : Report). report .0) told) ∙ one))
