@@ -3,15 +3,21 @@
 # Its law of one answer, and that of the numbers by which it refuses, are of that same statement, applied to variables alone.
 # Such a statement is held as its form: its name, and for each argument `_`, or the constant that it is: `HasText Text.Name _ _`.
 # Reads the imports (file, name, module), functions, laws (file, name, type) and entries that docs/check lists.
-BEGIN { FS = "\t" }
+BEGIN {
+    FS = "\t"
+    # by how much is lent to be written: nothing, one, or the records and the room of a search
+    split("OneAnswer OneOutcome OneOutcomes", one, " ")
+    split("Refuses RefusesWhole RefusesInPart", total, " ")
+}
 FILENAME ~ /imports$/ { module[$1, $2] = $3; next }
 FILENAME ~ /functions$/ { contract[$2] = $4; source[$2] = $5; next }
 FILENAME ~ /laws$/ { file[$2] = $1; type[$2] = $3; next }
 { check_entry($1, $2, $3) }
 
-function check_entry(entry, stated, numbers,   form, lent, title) {
+function check_entry(entry, stated, numbers,   form, lent, title, place) {
     form = contract_form(contract[entry])
     lent = lent_at
+    lents = split(lent, place, " ")
     if (form == "") {
         print entry ": its contract is no statement of its parameters, its answer and what was lent"
         return
@@ -19,7 +25,7 @@ function check_entry(entry, stated, numbers,   form, lent, title) {
     if (name_of(form) != stated) print entry ": its contract does not say " stated
     title = entry
     gsub(/::|_/, "-", title)
-    check_law(entry, "one-" title, lent ? "OneOutcome" : "OneAnswer", form)
+    check_law(entry, "one-" title, one[lents + 1], form)
     if ((form ~ /^r ≡ /) != (numbers == "")) print entry ": a statement has refusals, and an equation has none"
     else if (numbers != "") check_refusals(entry, "total-" title, form, numbers, lent)
 }
@@ -31,11 +37,11 @@ function name_of(form) {
 }
 
 # The form of a name applied to words: each name of `given` stands there once, alone or among others in brackets, and else constants.
-# `given` is 2 at the one that is lent; `lent_at` is set to its place.
+# `given` is 2 at what is lent; `lent_at` is set to its places.
 function applied_form(text,   word, size, i, form, depth, place, seen, used) {
     size = split(text, word, " ")
     form = word[1]
-    lent_at = 0
+    lent_at = ""
     for (i = 2; i <= size; i++) {
         if (word[i] == ")" && depth) { depth = 0; continue }
         if (!depth) { place++; form = form " " (word[i] ~ /^[A-Z][A-Za-z]*\.[A-Z][A-Za-z]*$/ ? word[i] : "_") }
@@ -43,7 +49,7 @@ function applied_form(text,   word, size, i, form, depth, place, seen, used) {
         if (word[i] in given) {
             if (seen[word[i]]++) return ""
             used++
-            if (given[word[i]] == 2) lent_at = place
+            if (given[word[i]] == 2) lent_at = lent_at " " place
         } else if (depth || form ~ /_$/) return ""
     }
     return form ~ /^[A-Za-z]+( |$)/ && used == named && !depth ? form : ""
@@ -117,9 +123,10 @@ function check_law(entry, law, demand, form,   text) {
     if (text != "") check_statement(entry, law, text, form)
 }
 
-# The same with the numbers, which are those of the page, and with what is lent, which stands where the contract lends it.
-function check_refusals(entry, law, form, numbers, lent,   text, said, name) {
-    text = opened(entry, law, lent ? "RefusesWhole" : "Refuses")
+# The same with the numbers, which are those of the page, and with what is lent, which stands where the contract lends it. A law of a search has in between
+# the numbers by which an iteration is refused, and the tests before all.
+function check_refusals(entry, law, form, numbers, lent,   text, said, name, k) {
+    text = opened(entry, law, total[lents + 1])
     if (text == "") return
     said = name = text
     sub(/^[A-Za-z]+ \(/, "", said)
@@ -127,7 +134,8 @@ function check_refusals(entry, law, form, numbers, lent,   text, said, name) {
     gsub(/ ∷ /, ", ", said)
     if (said != numbers) print entry ": its law " law " has the refusals " said ", and the page " numbers
     sub(/^[A-Za-z]+ \([^()]*\) /, "", text)
-    if (lent) {
+    if (lents == 2) sub(/^\([^()]*\) \([^()]*\) /, "", text)
+    for (k = 1; k <= lents; k++) {
         name = text
         sub(/ .*/, "", name)
         sub(/^[^ ]* /, "", text)
@@ -140,7 +148,7 @@ function check_refusals(entry, law, form, numbers, lent,   text, said, name) {
 # What stands behind the demand in a law's type; empty, and a fault, where the law is none of it.
 function opened(entry, law, demand,   text) {
     text = past_variables(type[law])
-    if (index(text, demand " ") == 1 && module[file[law], demand] == "Rattle.refusal.specs.Demands") return substr(text, length(demand) + 2)
+    if (index(text, demand " ") == 1 && module[file[law], demand] ~ /^Rattle·(refusal|search)\.specs\.Demands$/) return substr(text, length(demand) + 2)
     print entry ": no law " law " by " demand
     return ""
 }

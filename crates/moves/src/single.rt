@@ -6,6 +6,7 @@ ghost use Rattle.action_set.specs.Sets.{SetIn, keepOf};
 ghost use Rattle.craft_state.specs.Inside.{CraftIn};
 ghost use Rattle.moves.specs.Modes.{strict};
 ghost use Rattle.moves.specs.Moves.{movesOf};
+ghost use Rattle.moves.specs.inner.Sets.{strictBeyond};
 use super::amounts::is_payable;
 use super::amounts::keep_finishing;
 use super::amounts::progress_moves;
@@ -44,6 +45,20 @@ pub fn keep_payable_single(points: u32, set: u32) -> u32
     kept
 }
 
+// As `strict_part`.
+fn strict_part_single(context: CraftContext, state: CraftState, set: u32) -> u32
+    requires { ⌜ CraftIn context state × SetIn set ⌝ }
+    ensures { λ r. ⌜ (r ≡ keepOf (λ n. strictBeyond context state n (attributesOf n)) set) × SetIn r ⌝ }
+{
+    if is_eye_alone(context, state) {
+        return within(set, ONLY_TRAINED_EYE);
+    }
+    let strict = strict_moves(context, state, set);
+    let kind = kind_moves(context, state, strict);
+    let finish = keep_finishing(context, state, within(kind, PROGRESS));
+    progress_moves(context, state, kind, finish)
+}
+
 // As `moves_at_once`, in strict mode.
 pub fn strict_at_once(context: CraftContext, state: CraftState) -> u32
     requires { ⌜ CraftIn context state ⌝ }
@@ -55,11 +70,5 @@ pub fn strict_at_once(context: CraftContext, state: CraftState) -> u32
     let pool = context.action_pool;
     let set = unless(pool.0, QUALITY, state.quality < context.quality_target);
     let own = own_moves(context, state, set);
-    if is_eye_alone(context, state) {
-        return keep_payable_single(state.cp, within(own, ONLY_TRAINED_EYE));
-    }
-    let strict = strict_moves(context, state, own);
-    let kind = kind_moves(context, state, strict);
-    let finish = keep_finishing(context, state, within(kind, PROGRESS));
-    keep_payable_single(state.cp, progress_moves(context, state, kind, finish))
+    keep_payable_single(state.cp, strict_part_single(context, state, own))
 }

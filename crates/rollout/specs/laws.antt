@@ -1,4 +1,5 @@
 pub mod Draws
 pub mod Rollout
+pub mod Until
 pub mod RolledSampled
 pub mod Worked

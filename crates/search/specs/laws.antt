@@ -19,6 +19,7 @@ pub mod Touched
 pub mod Iterate
 pub mod Path
 pub mod Search
+pub mod Fewer
 pub mod Late
 pub mod Answer
 pub mod Demands

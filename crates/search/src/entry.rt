@@ -125,13 +125,15 @@ fn is_found(answer: Searched) -> bool
     true
 }
 
-// Record 0 has the plain moves of the start.
+// Record 0 has the plain moves of the start: those of a replay of no action, which leaves the single test to the loop of replay alone.
 fn root_of(context: CraftContext) -> Node
     requires { ⌜ ContextIn context ⌝ }
     ensures { λ r. ⌜ r ≡ rootNode (movesOf context (startOf context) plain) ⌝ }
 {
-    let start = fresh(context);
-    Node::root(moves::legal_moves(context, start, Mode::PLAIN))
+    let none: [u8; 0] = [];
+    let replay = simulator::execute_actions(context, Mode::PLAIN, &none);
+    let moves = replay.moves;
+    Node::root(moves.0)
 }
 
 // The state at the last record is the one that a replay of the path comes to.

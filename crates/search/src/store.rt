@@ -15,7 +15,6 @@ use super::select::stepped;
 use action_set::bits;
 use craft_context::CraftContext;
 use craft_state::CraftState;
-use moves::Mode;
 use tree::Node;
 use tree::node_at;
 use tree::put_node;
@@ -41,7 +40,7 @@ fn strict_moves(context: CraftContext, state: CraftState) -> u32
     requires { ⌜ CraftIn context state ⌝ }
     ensures { λ r. ⌜ r ≡ strictMoves context state ⌝ }
 {
-    moves::moves_at_once(context, state, Mode::STRICT)
+    moves::strict_at_once(context, state)
 }
 
 // One record below record k, which loses the action.

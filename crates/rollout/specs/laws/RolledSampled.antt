@@ -1,5 +1,5 @@
--- What a rollout that ended has used: the actions that its draws name are each a move where they stand, its score is bounded, and draws beyond the used ones
--- change nothing.
+-- What a rollout that ended has used: the actions that its draws name are each a move where they stand, its score is bounded, draws beyond the used ones
+-- change nothing, and it ends with no fewer.
 -- Assumes nothing.
 use mathlib.Core.Path.{_≡_, refl, ap, subst, _∙_}
 use mathlib.Core.Bool.{Bool, true, false, cond}
@@ -73,6 +73,8 @@ pub record Rolls (c : CraftContext) (s : CraftState) (moves at : ℕ) (draws : L
   pub bounded : c .«step_max» ≤ stepMost → (mode : Mode) → Among c s moves mode → Timely c s → ScoreIsBounded c result
   -- the first draws again, however others go on
   pub enough : (others : List ℕ) (used : ℕ) → at + used ≡ end → take used others ≡ take used draws → rolledFrom c s moves at others ≡ L.Ended result end
+  -- each of them was used: with fewer one is wanted
+  pub fewer : (n : ℕ) → at + n < end → rolledFrom c s moves at (take n draws) ≡ L.Refused NoDraw
 
 never : {x : Refusal} {result : CraftResult} {end : ℕ} → L.Refused x ≡ L.Ended result end → ⊥
 never e = let z : _≡_ {A = ℕ} 0 1 = cc in omega arith
@@ -91,6 +93,7 @@ module _ (c : CraftContext) where
         sampled = first;
         bounded = λ top mode among timely. subst (ScoreIsBounded c) is (judged-bounded c top s timely moves);
         enough = λ others used h same. again others ∙ e;
+        fewer = λ n h. absurd (omega arith);
       }
     where
       first : (n : ℕ) → at + n ≤ end → Sampled c s moves (sampledOf c s moves n draws)
@@ -120,6 +123,7 @@ module _ (c : CraftContext) where
           bounded = λ top mode among timely.
               rest .bounded top strict (λ n e. e) (legal-timely c top s timely attributesOf rows-bounded mode (nthOf moves d) (among (nthOf moves d) named));
           enough = again;
+          fewer = wanted;
         }
       where
         first : (n : ℕ) → at + n ≤ end → Sampled c s moves (sampledOf c s moves n (d ∷ draws))
@@ -133,6 +137,10 @@ module _ (c : CraftContext) where
             let here : x ≡ d = cc in
             let later : take used others ≡ take used draws = cc in
             rw (here, some, low) (rest .enough others used (omega arith) later)
+
+        wanted : (n : ℕ) → at + n < end → rolledFrom c s moves at (take n (d ∷ draws)) ≡ L.Refused NoDraw
+        wanted zero h = rw some refl
+        wanted (suc n) h = rw (some, low) (rest .fewer n (omega arith))
 
   -- THE law of a rollout that ended
   pub rolled : (s : CraftState) (moves at : ℕ) (draws : List ℕ) (result : CraftResult) (end : ℕ) → rolledFrom c s moves at draws ≡ L.Ended result end

@@ -171,7 +171,7 @@ module _ (c : CraftContext) (o : SearchOptions) (logs : List Float) (draws : Lis
 
 -- ---- draws beyond those used change nothing
 
-drop-take : (at used : ℕ) (l : List ℕ) → drop at (take (at + used) l) ≡ take used (drop at l)
+pub drop-take : (at used : ℕ) (l : List ℕ) → drop at (take (at + used) l) ≡ take used (drop at l)
 drop-take zero used l = rw zero-add
 drop-take (suc at) used [] = ap (drop (suc at)) (take-nil (suc at + used)) ∙ sym (take-nil used)
 drop-take (suc at) used (d ∷ l) = rw suc-add (drop-take at used l)

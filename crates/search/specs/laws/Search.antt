@@ -35,7 +35,7 @@ pub record Ends (c : CraftContext) (g : Growth) (done left : ℕ) (z : Outcome) 
   -- all of them, where none was refused
   pub whole : z .checked ≡ K.Passed → z .iterations ≡ done + left
 
-refused-never : {x : Refusal} → K.Refused x ≡ K.Passed → ⊥
+pub refused-never : {x : Refusal} → K.Refused x ≡ K.Passed → ⊥
 refused-never e = let z : _≡_ {A = ℕ} 0 1 = cc in omega arith
 
 -- none is done
@@ -74,7 +74,7 @@ module _ (c : CraftContext) (o : SearchOptions) (logs : List Float) (asked : Ask
   -- ---- the whole search
 
   module _ (nodes : List Node) (some : 0 < length nodes) where
-    start-grows : Grows c (startGrowth c o logs draws nodes) 0
+    pub start-grows : Grows c (startGrowth c o logs draws nodes) 0
     start-grows = record { growing = planted-growing c nodes some; visited = planted-visited c nodes some }
 
     pub search-ends : Ends c (startGrowth c o logs draws nodes) 0 (o .iterations) (growOf c o logs draws nodes)
