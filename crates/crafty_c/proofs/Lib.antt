@@ -1,3 +1,4 @@
 -- What several proofs share.
 -- Assumes nothing.
 mod Types
+mod TypesSearch

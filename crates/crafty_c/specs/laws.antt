@@ -1,4 +1,5 @@
 pub mod Answer
 pub mod Trees
+pub mod Searches
 pub mod OneAnswer
 pub mod Total

@@ -1,13 +1,18 @@
 // The engine for hosts in C and Rust: a static library of functions on numbers, bytes and records, which include/crafty.h declares.
-// Every function takes any of these, and refuses by document 01's numbers; a refusal leaves what was lent as it was.
+// Every function takes any of these, and refuses by document 01's numbers; a refusal leaves what was lent as it was,
+// but for the iterations of a search that were accepted before it.
 mod answer;
 mod numbers;
 mod replays;
+mod searches;
 mod texts;
 mod trees;
 
 pub use answer::CraftyAnswer;
+pub use numbers::CraftyState;
 pub use replays::crafty_replay;
+pub use searches::CraftyFound;
+pub use searches::crafty_search;
 pub use texts::crafty_macro_time;
 pub use texts::crafty_print;
 pub use texts::crafty_read_list;

@@ -6,11 +6,15 @@ use Prim.Native.Nat.{ℕ}
 use lib.Ieee.{Float}
 use Rattle.moves.specs.declared.mode.Mode.{Mode}
 use Rattle.tree.specs.declared.node.Node.{Node}
+use Rattle.search.specs.declared.options.SearchOptions.{SearchOptions}
 use Rattle.refusal.specs.Demands.{OneAnswer, OneOutcome}
+use Rattle.search.specs.Demands.{OneOutcomes}
 use Rattle.crafty.specs.laws.OneAnswer.{says, writes, changes}
 use Rattle.crafty_c.specs.Reports.{TellsNumbers}
 use Rattle.crafty_c.specs.Texts.{TellsReplay, TellsPrinted, TellsActions, TellsList, TellsSeconds}
 use Rattle.crafty_c.specs.Trees.{TellsPlanted, TellsInserted, TellsPropagated, TellsListed, TellsSolved}
+use Rattle.crafty_c.specs.Searches.{TellsSearched}
+use Rattle.crafty_c.specs.laws.Searches.{found-outcomes}
 
 -- values are the fifteen numbers of the context
 pub one-crafty-replay : (values : List ℕ) (mode : Mode) (list out : List ℕ) → OneOutcome (TellsNumbers values mode list out)
@@ -46,3 +50,7 @@ one-crafty-tree-children nodes count node out = writes
 
 pub one-crafty-tree-solution : (nodes : List Node) (count : ℕ) (out : List ℕ) → OneOutcome (TellsSolved nodes count out)
 one-crafty-tree-solution nodes count out = writes
+
+pub one-crafty-search : (values : List ℕ) (options : SearchOptions) (logs : List Float) (draws : List ℕ) (nodes : List Node) (out : List ℕ)
+    → OneOutcomes (TellsSearched values options logs draws nodes out)
+one-crafty-search values options logs draws nodes out = found-outcomes

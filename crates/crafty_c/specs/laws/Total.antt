@@ -9,10 +9,14 @@ use Rattle.refusal.specs.laws.Demands.{says-refuses, writes-refuses}
 use Rattle.moves.specs.declared.mode.Mode.{Mode}
 use Rattle.tree.specs.declared.node.Node.{Node}
 use Rattle.tree.specs.laws.Grow.{changes-refuses}
+use Rattle.search.specs.declared.options.SearchOptions.{SearchOptions}
+use Rattle.search.specs.Demands.{RefusesInPart}
 use Rattle.crafty_c.specs.Answer.{answered}
 use Rattle.crafty_c.specs.Reports.{TellsNumbers}
 use Rattle.crafty_c.specs.Texts.{TellsReplay, TellsPrinted, TellsActions, TellsList, TellsSeconds}
 use Rattle.crafty_c.specs.Trees.{solutionAnswered, TellsPlanted, TellsInserted, TellsPropagated, TellsListed, TellsSolved}
+use Rattle.crafty_c.specs.Searches.{foundTold, firstTests, TellsSearched}
+use Rattle.crafty_c.specs.laws.Searches.{found-refuses}
 
 -- values are the fifteen numbers of the context
 pub total-crafty-replay : (values : List ℕ) (mode : Mode) (list out : List ℕ)
@@ -52,3 +56,9 @@ total-crafty-tree-children nodes count node out = writes-refuses
 pub total-crafty-tree-solution : (nodes : List Node) (count : ℕ) (out : List ℕ)
     → RefusesWhole solutionAnswered (7 ∷ 6 ∷ []) out (TellsSolved nodes count out)
 total-crafty-tree-solution nodes count out = writes-refuses
+
+-- document 02's exceptions to demand 1: where an iteration or the path's room is refused, the iterations before stand
+pub total-crafty-search : (values : List ℕ) (options : SearchOptions) (logs : List Float) (draws : List ℕ) (nodes : List Node) (out : List ℕ)
+    → RefusesInPart foundTold (1 ∷ 21 ∷ 6 ∷ 19 ∷ 20 ∷ []) (6 ∷ 19 ∷ 20 ∷ []) (firstTests values options logs nodes) nodes out
+    (TellsSearched values options logs draws nodes out)
+total-crafty-search values options logs draws nodes out = found-refuses

@@ -5,20 +5,22 @@ use mathlib.Core.List.{List, [], _∷_}
 use mathlib.Core.Logic.{_⊎_, inl, inr}
 use Prim.Native.Nat.{ℕ}
 use lib.Ieee.{Float}
+use lib.ListN.{length}
 use Rattle.refusal.specs.declared.Refusal.{Refusal}
-use Rattle.refusal.specs.declared.Report.{Report}
 use Rattle.refusal.specs.declared.Checked.the-variants.{Passed, Refused}
-use Rattle.refusal.specs.Judge.{checksOf}
+use Rattle.refusal.specs.Judge.{checksOf, roomTest}
 use Rattle.refusal.specs.Demands.{numberOf, Among}
-use Rattle.refusal.specs.laws.Judge.{checks}
+use Rattle.refusal.specs.laws.Judge.{checks, checks-on-by}
 use Rattle.refusal.specs.laws.Demands.{number-among}
 use Rattle.craft_context.specs.declared.context.CraftContext.{CraftContext}
+use Rattle.craft_context.specs.Limits.{contextTests}
 use Rattle.tree.specs.declared.node.Node.{Node}
+use Rattle.tree.specs.Refusals.{newCount}
 use Rattle.search.specs.declared.options.SearchOptions.{SearchOptions}
 use Rattle.search.specs.declared.entry.Searched.{Searched}
-use Rattle.search.specs.Search.{askedTests, searchedTold, searchedOf, recordsOf, roomOf, Searches}
+use Rattle.search.specs.Options.{searchTest}
+use Rattle.search.specs.Search.{askedTests, searchedTold, Searches}
 use Rattle.search.specs.Demands.{OneOutcomes, RefusesInPart}
-use Rattle.search.specs.laws.Late.{Late}
 use Rattle.search.specs.laws.Answer.{Away, Stopped, Whole, ways}
 
 -- the numbers of the first tests, and those of what comes later, are among all
@@ -57,3 +59,29 @@ module _ {c : CraftContext} {o : SearchOptions} {logs : List Float} {draws : Lis
       go (inr (inr a)) =
           let is : searchedTold r .0 ≡ 0 = sym (number (a .answer)) in
           (inr (inr (inr (inr (inr is)))), (λ no. absurd (no is)), (λ no. absurd (no (a .passed))), inl (inr (inr (inr is))))
+
+-- ---- a context inside its limits is never refused by 1
+
+inside-first : (c : CraftContext) (o : SearchOptions) (logs : List Float) (nodes : List Node) {x : Refusal} → Passed ≡ checksOf (contextTests c)
+    → Refused x ≡ checksOf (askedTests nodes logs c o) → Among (21 ∷ 6 ∷ []) (numberOf x)
+inside-first c o logs nodes p e =
+    let rest = searchTest logs o (c .«step_max») ∷ roomTest (length nodes) newCount ∷ [] in
+    number-among (checks rest (e ∙ sym (checks-on-by (contextTests c) rest p refl refl)))
+
+pub inside-number : (c : CraftContext) (o : SearchOptions) (logs : List Float) (draws : List ℕ) (nodes : List Node) (out : List ℕ) → Passed ≡ checksOf (contextTests c)
+    → {r : Searched} {after : List Node} {written : List ℕ} → Searches c o logs draws nodes out r after written → Among (21 ∷ 6 ∷ 19 ∷ 20 ∷ []) (searchedTold r .0)
+inside-number c o logs draws nodes out p {r} {after} {written} s = go (ways c o logs draws nodes out s)
+  where
+    told : {q : Searched} → r ≡ q → Among (21 ∷ 6 ∷ 19 ∷ 20 ∷ []) (searchedTold q .0) → Among (21 ∷ 6 ∷ 19 ∷ 20 ∷ []) (searchedTold r .0)
+    told e a = subst (λ (q : Searched). Among (21 ∷ 6 ∷ 19 ∷ 20 ∷ []) (searchedTold q .0)) (sym e) a
+
+    first : {n : ℕ} → Among (21 ∷ 6 ∷ []) n → Among (21 ∷ 6 ∷ 19 ∷ 20 ∷ []) n
+    first (inl e) = inl e
+    first (inr (inl e)) = inr (inl e)
+    first (inr (inr e)) = inr (inr (inr (inr e)))
+
+    go : Away c o logs draws nodes out r after written ⊎ (Stopped c o logs draws nodes out r after written ⊎ Whole c o logs draws nodes out r after written)
+        → Among (21 ∷ 6 ∷ 19 ∷ 20 ∷ []) (searchedTold r .0)
+    go (inl a) = told (a .answer) (first (inside-first c o logs nodes p (a .failed)))
+    go (inr (inl a)) = told (a .answer) (inr (a .late))
+    go (inr (inr a)) = told (a .answer) (inr (inr (inr (inr refl))))

@@ -1,6 +1,6 @@
 -- By which numbers an iteration is refused, and so a search after its first tests: 6 for the records that it wants to store or for the path, 19 and 20 for a draw.
 -- Assumes nothing.
-use mathlib.Core.Path.{_≡_, refl}
+use mathlib.Core.Path.{refl}
 use mathlib.Core.Logic.{inl, inr}
 use mathlib.Core.Bool.{Bool, true, false, cond}
 use mathlib.Core.List.{List, [], _∷_}

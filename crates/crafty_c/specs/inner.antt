@@ -1,0 +1,3 @@
+-- For the contracts of inner functions: what they answer. No public statement cites it.
+-- Assumes nothing.
+pub mod Searches
