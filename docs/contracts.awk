@@ -108,6 +108,7 @@ function as_words(text,   read, part) {
         text = substr(text, 1, RSTART - 1) part[4] "@" part[3] substr(text, RSTART + RLENGTH)
     }
     gsub(/\((record [{] [a-z_]+ = |modeOf )/, "(", text)
+    gsub(/; [a-z_]+ = /, " ", text)
     gsub(/ [}]\)| ∷ \[\]\)/, ")", text)
     gsub(/ ∷ /, " ", text)
     gsub(/\(/, "( ", text)
