@@ -36,9 +36,9 @@ function name_of(form) {
     return form
 }
 
-# The form of a name applied to words: each name of `given` stands there once, alone or among others in brackets, and else constants.
+# The form of a name applied to words: each name of `given` stands there once, alone or among others in brackets, in their order, and else constants.
 # `given` is 2 at what is lent; `lent_at` is set to its places.
-function applied_form(text,   word, size, i, form, depth, place, seen, used) {
+function applied_form(text,   word, size, i, form, depth, place, seen, used, last) {
     size = split(text, word, " ")
     form = word[1]
     lent_at = ""
@@ -47,7 +47,8 @@ function applied_form(text,   word, size, i, form, depth, place, seen, used) {
         if (!depth) { place++; form = form " " (word[i] ~ /^[A-Z][A-Za-z]*\.[A-Z][A-Za-z]*$/ ? word[i] : "_") }
         if (word[i] == "(" && !depth) { depth = 1; continue }
         if (word[i] in given) {
-            if (seen[word[i]]++) return ""
+            if (seen[word[i]]++ || (depth && place_of[word[i]] < last)) return ""
+            last = depth ? place_of[word[i]] : 0
             used++
             if (given[word[i]] == 2) lent_at = lent_at " " place
         } else if (depth || form ~ /_$/) return ""
@@ -93,11 +94,13 @@ function read_parameters(start,   part, name, k) {
         name = part[k]
         sub(/ *:.*/, "", name)
         given[(part[k] ~ /: &/ ? "entry@" : "") name] = part[k] ~ /: &mut / ? 2 : 1
+        place_of[name] = k
         if (part[k] ~ /: &mut /) exits = exits " exit@" name
     }
 }
 
-# A parameter becomes one word, also where it is read at entry or exit; a list, a record or a mode of parameters becomes them in brackets.
+# A parameter becomes one word, also where it is read at entry or exit; a list, a record or a mode of parameters becomes them in brackets. The fields of a
+# record of several have the names of their parameters.
 function as_words(text,   read, part) {
     gsub(/«/, "", text)
     gsub(/»/, "", text)
@@ -107,8 +110,13 @@ function as_words(text,   read, part) {
         split(read, part, /[( .)]+/)
         text = substr(text, 1, RSTART - 1) part[4] "@" part[3] substr(text, RSTART + RLENGTH)
     }
-    gsub(/\((record [{] [a-z_]+ = |modeOf )/, "(", text)
-    gsub(/; [a-z_]+ = /, " ", text)
+    gsub(/\((record [{]|modeOf )/, "(", text)
+    gsub(/; /, " ", text)
+    while (match(text, / [a-z_]+ = [a-z_]+/)) {
+        split(substr(text, RSTART + 1, RLENGTH - 1), part, " = ")
+        if (part[1] != part[2]) return ""
+        text = substr(text, 1, RSTART) part[2] substr(text, RSTART + RLENGTH)
+    }
     gsub(/ [}]\)| ∷ \[\]\)/, ")", text)
     gsub(/ ∷ /, " ", text)
     gsub(/\(/, "( ", text)
@@ -135,7 +143,7 @@ function check_refusals(entry, law, form, numbers, lent,   text, said, name, k) 
     gsub(/ ∷ /, ", ", said)
     if (said != numbers) print entry ": its law " law " has the refusals " said ", and the page " numbers
     sub(/^[A-Za-z]+ \([^()]*\) /, "", text)
-    if (lents == 2) sub(/^\([^()]*\) \([^()]*\) /, "", text)
+    if (lents == 2) sub(/^\(6 ∷ 19 ∷ 20 ∷ \[\]\) \((asked|first)Tests [^()]*\) /, "", text)
     for (k = 1; k <= lents; k++) {
         name = text
         sub(/ .*/, "", name)

@@ -1,12 +1,13 @@
 /* The crafting-rules engine for hosts in C: the functions of libcrafty_c.a, which `rt staticlib crafty_c` proves and
  * builds for x86-64 Linux. It keeps nothing between calls, allocates nothing, and any number of threads may call it.
- * Of C's library it needs memcpy and memset. A call takes up to some 100 KB of stack.
+ * Of C's library it needs memcpy and memset. A call takes up to some 100 KB of stack, crafty_search some
+ * 160.
  *
  * What the host owes: a pointer and a length are a run of that many bytes, numbers or records, aligned as C aligns
- * them, that stays there during the call; what is lent to be written is used by nobody else meanwhile, and does not overlap what is read. Where the
- * length is 0 nothing is read or written, and the pointer may be null. And it owes the floating-point environment in
- * which a program starts: round to nearest, no flush to zero and no denormals are zero, no exception unmasked. Beyond
- * that every function takes any numbers and any bytes.
+ * them, that stays there during the call; what is lent to be written is used by nobody else meanwhile, and overlaps
+ * nothing else that is lent. Where the length is 0 nothing is read or written, and the pointer may be null. And it owes
+ * the floating-point environment in which a program starts: round to nearest, no flush to zero and no denormals are
+ * zero, no exception unmasked. Beyond that every function takes any numbers and any bytes.
  *
  * Every bit that is proved rests on that environment; in another nothing is promised. Under fesetround(FE_UPWARD) a
  * craft that scores 3E94BC6A scores 3E94BC6C; with flush to zero a back-propagated 1e-40 is stored as 0; with an
@@ -222,11 +223,13 @@ typedef struct crafty_found {
  * as crafty_tree_solution does. A plain replay executes them all.
  *   logs         number v - 1 is the logarithm of v visits: 4,096 of them, each from 0 to 17. More are not read
  *   draws        a byte n picks, of the moves that are left, the one with n of them above it: 0 is the highest. It is
- *                below their number. An iteration uses at most step_max of them, and what is left over is not read
- *   out          the actions, at most step_max
+ *                below their number. An iteration uses one for each action that it tries, and what is left over is
+ *                not read
+ *   out          the actions, at most 255
  *   iterations   at most 4,096. Each stores one record or none, or its whole path: one record for each draw
- *   score_storage_threshold        from this score on the path of a finished rollout is stored, if it is also as good
- *                                  as all before it: 0 keeps each such one, 1 keeps none. Any number, but no NaN
+ *   score_storage_threshold        from this score on the path of a finished rollout is stored, if it is also at least
+ *                                  record 0's max_score, which starts at 0: 0 keeps each such one, 1 keeps none. Any
+ *                                  number, but no NaN
  *   max_score_weighting_constant   what a record's greatest score counts beside its average, from 0 to 1; usually 0.1
  *   exploration_constant           from 0 to 16; usually 1.5
  * step_max is at least 1. Minus zero counts as 0.

@@ -23,7 +23,7 @@
 //!     use_delineation: false,
 //! };
 //! let options = SearchOptions { iterations: 20, ..SearchOptions::default() };
-//! // no iteration uses more than step_max draws, and each stores at most one record for each of them
+//! // here no iteration tries more than step_max actions, with a draw and at most one record for each
 //! let draws = [0; 20 * 8];
 //! let mut nodes = [Node::default(); 1 + 20 * 8];
 //! let mut actions = [0; 8];
@@ -49,8 +49,8 @@ pub const LOGARITHMS: usize = 4_096;
 pub struct SearchOptions {
     /// At most 4,096.
     pub iterations: u32,
-    /// From this score on the whole path of a finished rollout is stored, if it is also as good as all before it. No score
-    /// reaches 1.
+    /// From this score on the whole path of a finished rollout is stored, if it is also at least record 0's max_score, which
+    /// starts at 0. No score reaches 1.
     pub score_storage_threshold: f32,
     /// What a record's greatest score counts beside its average, from 0 to 1.
     pub max_score_weighting_constant: f32,
@@ -58,7 +58,7 @@ pub struct SearchOptions {
     pub exploration_constant: f32,
 }
 
-/// As many iterations as there may be, and a threshold that a finished rollout reaches.
+/// As many iterations as there may be, and a threshold that keeps every finished rollout as good as the best so far.
 impl Default for SearchOptions {
     fn default() -> SearchOptions {
         SearchOptions {

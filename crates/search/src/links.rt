@@ -6,10 +6,10 @@ ghost use lib.ListN.{length};
 ghost use Rattle.search.specs.inner.Links.{linked, olderAt, lastLink, topOf, linkOf};
 
 // As many records as the index has room for: those of a search that stores few whole paths.
-const LINKED: usize = 8192;
+const LINKED: usize = 16384;
 
 // The numbers of the index.
-pub const LINKS: usize = 16384;
+pub const LINKS: usize = 32768;
 
 // The lesser of count and room.
 pub fn top_of(count: usize) -> usize

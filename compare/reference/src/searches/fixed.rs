@@ -17,9 +17,9 @@ use std::sync::Arc;
 
 const SEED: u32 = 1;
 /// As many records as the index of crates/search has room for.
-const INDEXED: usize = 8_192;
-/// So many trees are larger.
-const LARGE: u32 = 4;
+const INDEXED: usize = 16_384;
+/// So many searches of each craft whose tree is larger.
+const LARGE: u32 = 2;
 /// So few that each draw, record and place of the path can be wrong in turn.
 const FEW: u32 = 5;
 
@@ -66,12 +66,14 @@ fn whole(context: &CraftContext) -> Vec<Case> {
 
 /// Every rollout has the same score, which is the threshold, and is stored.
 fn past_index() -> Vec<Case> {
-    let case = |seed| {
-        let run = Run::at_threshold(&even(5, 7, 20), options(ITERATIONS_MOST), seed);
+    let case = |context: &CraftContext, seed| {
+        let run = Run::at_threshold(context, options(ITERATIONS_MOST), seed);
         assert!(run.grown.records.len() > INDEXED, "a tree within the index");
         Case::new(Call::of(&run), &run)
     };
-    (SEED..SEED + LARGE).map(case).collect()
+    let crafts = [even(4, 9, 20), even(5, 9, 20), even(5, 10, 20)];
+    let seeds = SEED..SEED + LARGE;
+    crafts.iter().flat_map(|context| seeds.clone().map(move |seed| case(context, seed))).collect()
 }
 
 /// One that stores whole paths, and one that stores none.

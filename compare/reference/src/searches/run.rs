@@ -16,8 +16,10 @@ const NAME: &str = "crafty_search";
 /// The bytes of a `crafty_found`, and where its state begins.
 const FOUND: usize = 120;
 const STATE: usize = 48;
-/// In so many random searches whatever is counted is met so often at least. Fewer may miss some.
+/// In so many random searches there are so many iterations, and whatever else is counted is met so often, at least. Fewer
+/// may miss some.
 const MANY: u64 = 20_000;
+const LEAST_ITERATIONS: u64 = 10_000_000;
 const LEAST: u64 = 1_000;
 
 const ITERATIONS: &str = "iterations";
@@ -79,8 +81,8 @@ fn count_case(counts: &mut Counts, case: &Case) {
 }
 
 fn check(counts: &Counts, searches: u64) {
-    let least = searches / MANY * LEAST;
-    let few = counts.others().find(|(_, count)| *count < least);
+    let least = |what: &str| if what == ITERATIONS { LEAST_ITERATIONS } else { LEAST };
+    let few = counts.others().find(|(what, count)| *count < searches / MANY * least(what));
     if let Some((what, count)) = few {
         fail(format!("{what}: met only {count} times"));
     }

@@ -11,7 +11,7 @@ use Rattle.tree.specs.Tree.{nodeAt, isChild}
 
 -- as many records as the index has room for
 abbrev pub linked : ℕ
-linked = 8192
+linked = 16384
 
 -- two numbers to a record: its last child among these, and the child of its parent before it; 0 for none
 abbrev pub lastAt : List ℕ → ℕ → ℕ

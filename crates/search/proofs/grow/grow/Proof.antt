@@ -36,7 +36,7 @@ use Rattle.search.proofs.grow.grow.Code as code
 
 -- the numbers of the index
 abbrev numbers : ℕ
-numbers = 16384
+numbers = 32768
 
 roomy : Room (UInt w32) numbers
 roomy = (lit< tt, lit< tt)
