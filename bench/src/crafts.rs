@@ -1,7 +1,7 @@
 //! What is crafted.
 
 use brothlantern::Context;
-use crafty::{CraftContext, CraftOptions, Player, Recipe};
+use crafty::{Action, ActionSet, CraftContext, CraftOptions, Player, Recipe};
 
 /// The greatest that a target or a player's points may be.
 const MOST: u32 = 1_000_000;
@@ -51,6 +51,47 @@ pub fn searched() -> [(&'static str, CraftContext); 3] {
         ("15 steps", players(70, 15)),
         ("durability 40", players(40, 25)),
     ]
+}
+
+/// Crafts with trees of another kind, for which there is no goal: a beginner's small one, soon full of dead ends, and one in
+/// which every rollout has the same score, so that each is stored whole.
+pub fn searched_besides() -> [(&'static str, CraftContext); 2] {
+    [("a beginner's", beginners()), ("equal scores", equal())]
+}
+
+fn beginners() -> CraftContext {
+    let recipe = Recipe {
+        recipe_level: 10,
+        job_level: 10,
+        progress: 39,
+        quality: 150,
+        progress_div: 50,
+        progress_mod: 100,
+        quality_div: 30,
+        quality_mod: 100,
+        ..recipe(60)
+    };
+    CraftContext::new(&Player::new(10, 60, 60, 180), &recipe, options(20))
+}
+
+/// Each move brings the same progress, and steps alone are scored.
+fn equal() -> CraftContext {
+    use Action::*;
+    let moves = vec![
+        BasicSynthesis,
+        BasicSynthesisTraited,
+        CarefulSynthesis,
+        CarefulSynthesisTraited,
+        PrudentSynthesis,
+    ];
+    CraftContext {
+        base_progress_factor: 1,
+        progress_target: 9,
+        quality_target: 0,
+        durability_max: 97,
+        action_pool: ActionSet::from_vec(&moves),
+        ..players(70, 20)
+    }
 }
 
 fn players(durability: i8, max_steps: u8) -> CraftContext {

@@ -48,7 +48,11 @@ fn time(rounds: usize) -> bool {
     println!("{:<48} {:>12} {:>12} {:>9}", "", "ours, ns", "Rust, ns", "ratio");
     let cases: Vec<(Case, Figure)> =
         cases::all().into_iter().map(|case| (case, printed(case.measure(rounds)))).collect();
-    let searches = searches::measure(rounds).into_iter().map(printed).collect::<Vec<Figure>>();
+    let searches: Vec<Figure> =
+        searches::measure(rounds, &crafts::searched()).into_iter().map(printed).collect();
+    for figure in searches::measure(rounds, &crafts::searched_besides()) {
+        println!("{figure}");
+    }
     let trees = trees::measure(rounds);
     for figure in &trees.figures {
         println!("{figure}");

@@ -1,6 +1,6 @@
 //! Searches, on the draws that the Rust's generator gives the Rust.
 
-use crate::crafts::{ours, searched};
+use crate::crafts::ours;
 use crate::measure::{compare, timed, Figure};
 use crate::trees::records;
 use brothlantern::search::{logarithms, search, Found, SearchOptions, LOGARITHMS};
@@ -30,9 +30,9 @@ struct Lent {
 }
 
 /// For each craft with fewer and with more iterations.
-pub fn measure(rounds: usize) -> Vec<Figure> {
+pub fn measure(rounds: usize, crafts: &[(&str, CraftContext)]) -> Vec<Figure> {
     let mut figures = Vec::new();
-    for (name, context) in &searched() {
+    for (name, context) in crafts {
         for iterations in ITERATIONS {
             let name = format!("search of {iterations}, {name}");
             figures.push(measure_one(name, context, iterations, rounds));
