@@ -1,5 +1,5 @@
-//! The crafting-rules engine for hosts in Rust. Every function takes any input; a refusal says by document 01's number
-//! what is wrong with it. An action is its number, 0 to 30, one byte to an action in a list.
+//! The crafting-rules engine for hosts in Rust. Every function takes any input; a refusal says what is wrong with
+//! it. An action is its number, 0 to 30, one byte to an action in a list.
 //!
 //! Every bit of an answer rests on the floating-point environment in which a program starts: round to nearest, no flush
 //! to zero and no denormals are zero, no exception unmasked. Rust itself takes it for granted, but C code in the same

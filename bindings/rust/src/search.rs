@@ -62,7 +62,7 @@ pub struct SearchOptions {
 impl Default for SearchOptions {
     fn default() -> SearchOptions {
         SearchOptions {
-            iterations: 4_096,
+            iterations: LOGARITHMS as u32,
             score_storage_threshold: 0.0,
             max_score_weighting_constant: 0.1,
             exploration_constant: 1.5,

@@ -14,8 +14,8 @@ use Rattle.tree.specs.Node.{rootNode}
 use Rattle.tree.proofs.node.Node as T
 use Rattle.tree.proofs.Types.{node′}
 use Rattle.tree.proofs.TypesEntries.{solved′}
-use Rattle.search.specs.Search.{noProgress, Searches}
-use Rattle.search.specs.inner.Entry.{firstTests, soFar, isFound, progressBy, Replays, pathFound}
+use Rattle.search.specs.Search.{noProgress, earlyTests, Searches}
+use Rattle.search.specs.inner.Entry.{soFar, isFound, progressBy, Replays, pathFound}
 use Rattle.search.proofs.entry.Searched as A
 use Rattle.search.proofs.entry.Searched.Laws as A′
 use Rattle.walks.proofs.Values.{Datum, usize′, bool′, enum′}
@@ -31,7 +31,7 @@ begun′ = record {
   takes = context′ ∷ options′ ∷ usize′ ∷ [];
   gives = searched′;
   asks = nothing-asked;
-  says = λ xs a r. r ≡ soFar (a .0) (checksOf (firstTests (a .1 .1 .0) xs (a .0) (a .1 .0))) noProgress;
+  says = λ xs a r. r ≡ soFar (a .0) (checksOf (earlyTests (a .1 .1 .0) xs (a .0) (a .1 .0))) noProgress;
 }
 
 abbrev pub is-found′ : PlainFn

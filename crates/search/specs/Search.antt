@@ -75,9 +75,12 @@ foundOf c z =
       state = stateAt c (z .growth .nodes) (endOf (z .growth .nodes) (z .growth .count));
     }
 
--- refusals 1, 21, and 6 where not even record 0 has room: until here nothing is written
+-- refusals 1, 21, and 6 where not even record 0 has room, with so many records: until here nothing is written
+abbrev pub earlyTests : ℕ → List Float → CraftContext → SearchOptions → List Test
+earlyTests records logs c o = contextTests c ++ (searchTest logs o (c .«step_max») ∷ roomTest records newCount ∷ [])
+
 abbrev pub askedTests : List Node → List Float → CraftContext → SearchOptions → List Test
-askedTests nodes logs c o = contextTests c ++ (searchTest logs o (c .«step_max») ∷ roomTest (length nodes) newCount ∷ [])
+askedTests nodes logs c o = earlyTests (length nodes) logs c o
 
 -- by what stopped the iterations, and then by the room for the path
 abbrev pub settledBy : {A : Type 0} → (Refusal → A) → A → List Test → Checked → A

@@ -6,8 +6,8 @@ ghost use Rattle.craft_state.specs.Start.{startOf};
 ghost use Rattle.moves.specs.Modes.{plain};
 ghost use Rattle.moves.specs.Moves.{movesOf};
 ghost use Rattle.tree.specs.Node.{rootNode};
-ghost use Rattle.search.specs.Search.{noProgress, Searches};
-ghost use Rattle.search.specs.inner.Entry.{firstTests, soFar, isFound, progressBy, Replays, pathFound};
+ghost use Rattle.search.specs.Search.{noProgress, earlyTests, Searches};
+ghost use Rattle.search.specs.inner.Entry.{soFar, isFound, progressBy, Replays, pathFound};
 use super::grow::Grown;
 use super::grow::grow;
 use super::options::SearchOptions;
@@ -71,7 +71,7 @@ fn check_first(
     options: SearchOptions,
     records: usize,
 ) -> Checked
-    ensures { λ r. ⌜ r ≡ checksOf (firstTests records (now (logs .entry)) context options) ⌝ }
+    ensures { λ r. ⌜ r ≡ checksOf (earlyTests records (now (logs .entry)) context options) ⌝ }
 {
     let inside = context.check();
     if let Checked::Refused(x) = inside {
@@ -103,7 +103,7 @@ fn so_far(context: CraftContext, checked: Checked, progress: Progress) -> Search
 }
 
 fn begun(logs: &[f32], context: CraftContext, options: SearchOptions, records: usize) -> Searched
-    ensures { λ r. ⌜ r ≡ soFar context (checksOf (firstTests records (now (logs .entry)) context options)) noProgress ⌝ }
+    ensures { λ r. ⌜ r ≡ soFar context (checksOf (earlyTests records (now (logs .entry)) context options)) noProgress ⌝ }
 {
     let checked = check_first(logs, context, options, records);
     so_far(context, checked, Progress::none())

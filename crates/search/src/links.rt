@@ -9,7 +9,7 @@ ghost use Rattle.search.specs.inner.Links.{linked, olderAt, lastLink, to
 const LINKED: usize = 16384;
 
 // The numbers of the index.
-pub const LINKS: usize = 32768;
+pub const LINKS: usize = 2 * LINKED;
 
 // The lesser of count and room.
 pub fn top_of(count: usize) -> usize

@@ -34,7 +34,7 @@ impl SearchOptions {
 }
 
 // One for each number of visits that a record may have.
-const LOGARITHMS: usize = 4096;
+const LOGARITHMS: usize = SearchOptions::ITERATIONS_MOST as usize;
 
 fn is_log(ln: f32) -> bool
     ensures { λ r. ⌜ r ≡ isLog ln ⌝ }

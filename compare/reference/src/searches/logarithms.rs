@@ -1,11 +1,12 @@
 //! The table of logarithms that a search is lent: number v - 1 is that of v visits.
 
+use super::options::ITERATIONS_MOST;
 use crate::random::Random;
 use crate::trees::any_float;
 use std::sync::{Arc, LazyLock};
 
 /// As many as there may be visits.
-pub const LOGARITHMS: usize = 4_096;
+pub const LOGARITHMS: usize = ITERATIONS_MOST as usize;
 pub const LOGARITHM_MOST: f32 = 17.0;
 
 /// A table; searches share one.

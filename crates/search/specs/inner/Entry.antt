@@ -1,32 +1,23 @@
 -- For the contracts of inner functions: what the entry answers so far, and how it settles.
 -- Assumes nothing.
 use mathlib.Core.Bool.{Bool, true, false}
-use mathlib.Core.List.{List, [], _∷_, _++_}
+use mathlib.Core.List.{List}
 use Prim.Native.Nat.{ℕ, _≤_}
-use lib.Ieee.{Float}
 use lib.ListN.{length, take}
 use Rattle.refusal.specs.declared.Checked.{Checked}
 use Rattle.refusal.specs.declared.Checked.the-variants as K
-use Rattle.refusal.specs.Judge.{Test, roomTest}
 use Rattle.action.specs.Known.{knownFront}
 use Rattle.craft_context.specs.declared.context.CraftContext.{CraftContext}
-use Rattle.craft_context.specs.Limits.{contextTests, ContextIn}
+use Rattle.craft_context.specs.Limits.{ContextIn}
 use Rattle.craft_state.specs.Start.{startOf}
 use Rattle.moves.specs.Modes.{plain}
 use Rattle.simulator.specs.Replay.{replayOf}
 use Rattle.tree.specs.declared.paths.Solved.{Solved}
 use Rattle.tree.specs.declared.paths.Solved.the-variants as P
-use Rattle.tree.specs.Refusals.{newCount}
-use Rattle.search.specs.declared.options.SearchOptions.{SearchOptions}
 use Rattle.search.specs.declared.grow.Grown.{Grown}
 use Rattle.search.specs.declared.entry.Progress.{Progress}
 use Rattle.search.specs.declared.entry.Searched.{Searched}
 use Rattle.search.specs.declared.entry.Searched.the-variants as S
-use Rattle.search.specs.Options.{searchTest}
-
--- `askedTests`, of as many records
-abbrev pub firstTests : ℕ → List Float → CraftContext → SearchOptions → List Test
-firstTests records logs c o = contextTests c ++ (searchTest logs o (c .«step_max») ∷ roomTest records newCount ∷ [])
 
 -- a search that was refused nothing has found the start
 abbrev pub soFar : CraftContext → Checked → Progress → Searched

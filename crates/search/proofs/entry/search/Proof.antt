@@ -16,8 +16,8 @@ use Rattle.moves.specs.Moves.{movesOf}
 use Rattle.tree.specs.declared.node.Node.{Node}
 use Rattle.tree.specs.Tree.{plantedOf}
 use Rattle.search.specs.declared.options.SearchOptions.{SearchOptions}
-use Rattle.search.specs.Search.{noProgress, askedTests}
-use Rattle.search.specs.inner.Entry.{firstTests, soFar}
+use Rattle.search.specs.Search.{noProgress, askedTests, earlyTests}
+use Rattle.search.specs.inner.Entry.{soFar}
 use Rattle.search.specs.laws.Entry.{entry-refused, entry-asked, entry-some, entry-started, entry-stopped, entry-done, entry-replays, entry-found}
 use Rattle.search.proofs.grow.Grown as G
 use Rattle.search.proofs.grow.Grown.Laws as G′
@@ -69,7 +69,7 @@ search-spec 𝓤 H 𝓜 𝓖 𝓡 =
     let byte : c .«step_max» ≤ stepMost = steps-fit c (are .0) in
     sets ! (of-opd ! (part ! refl refl refl refl)) refl (tt, record { fits = S .room .0 }) $
     calls-slices ! 𝓣 (pass-shr 1 L gs same-g ∷ []) (λ _. refl) then (of-shr begun′) tests (c, (o, (S .count, tt))) (are .0, (are .1 .0, ((refl, S .room .0), tt))) tt (λ _ _. opd ! refl & opd ! refl & opd ! refl & opd ! refl & no-more !) (λ first _ first-is first-ty _ first-said. lands-in ! refl (first-ty .0) $
-    let first-says : first ≡ soFar c (checksOf (askedTests ys gs c o)) noProgress = first-said ∙ ap (λ (n : ℕ). soFar c (checksOf (firstTests n gs c o)) noProgress) (sym same) in
+    let first-says : first ≡ soFar c (checksOf (askedTests ys gs c o)) noProgress = first-said ∙ ap (λ (n : ℕ). soFar c (checksOf (earlyTests n gs c o)) noProgress) (sym same) in
     calls-plain ! 𝓣 then is-found′ asks (first, tt) (first-is, tt) tt (λ _. opd ! refl & no-more !) (λ asked _ asked-ty asked-said. lands-in ! refl (asked-ty .0) $
     sets ! (un ! (opd ! refl) tt) refl (tt, tt) $
     guards ! (opd ! refl)
