@@ -8,15 +8,15 @@ use lib.Dec.{ltb}
 use lib.ListN.{getD}
 use Rattle.laws.specs.Bits.{has, collect, withBit, withoutBit, keepBits, count, highestBelow}
 use Rattle.refusal.specs.Judge.{Test}
-use Rattle.refusal.specs.declared.Refusal.the-variants.{OutsideLimits}
+use Rattle.refusal.specs.Limits.{limitTest}
 use Rattle.action.specs.Known.{actions, actionTest}
 
 abbrev pub SetIn : ℕ → Type 0
 SetIn s = s < 2 ^ actions
 
--- refusal 1: bit 31 of a set is clear
+-- refusal 1: bit 31 of a set is clear. Document 02, E1: its place is "0 for a set"
 abbrev pub setTest : ℕ → Test
-setTest s = record { passed = ltb s (2 ^ actions); otherwise = OutsideLimits }
+setTest s = limitTest 0 (ltb s (2 ^ actions))
 
 -- refusals 1 and 3, of a set and an action
 abbrev pub memberTests : ℕ → ℕ → List Test

@@ -63,7 +63,7 @@ impl ActionSet {
         ActionSet(0)
     }
 
-    // Refusal 1: bit 31 is set.
+    // Refusal 1: bit 31 is set. The place of a set alone is 0.
     pub fn check(self) -> Checked
         ensures { λ r. ⌜ ChecksSet (self .0) r ⌝ }
     {
@@ -71,7 +71,7 @@ impl ActionSet {
         if bits < ActionSet::LIMIT {
             return Checked::Passed;
         }
-        Checked::Refused(Refusal::OutsideLimits)
+        Checked::Refused(Refusal::OutsideLimits(0))
     }
 
     pub fn from_bits(bits: u32) -> Changed

@@ -1,4 +1,5 @@
 -- Document 01, "The replay program": the "fifteen `CraftContext` fields in order" make a context, "flags 0 or 1, else refusal 1, as for a number too large".
+-- Document 02, E1: with it "the position of the first field outside its limit".
 -- Assumes nothing.
 use mathlib.Core.Bool.{Bool}
 use mathlib.Core.List.{List, [], _∷_}
@@ -7,10 +8,11 @@ use lib.Dec.{leb, eqb}
 use lib.IntN.{pos}
 use lib.ListN.{getD}
 use Rattle.refusal.specs.Judge.{Test}
+use Rattle.refusal.specs.Limits.{limitTests}
 use Rattle.craft_context.specs.declared.context.CraftContext.{CraftContext}
 use Rattle.action.specs.Limits.{factorMost, targetMost}
 use Rattle.action_set.specs.Sets.{setTest}
-use Rattle.craft_context.specs.Limits.{durable, limitTest}
+use Rattle.craft_context.specs.Limits.{durable}
 
 -- the greatest number of each type that a field has and its limit does not narrow: u32, u8
 abbrev pub wordMost : ℕ
@@ -54,13 +56,17 @@ takes =
     upTo flagSet ∷
     []
 
--- refusal 1 of the numbers from place k on, one test to a field in their order
-abbrev pub testsFrom : ℕ → List (ℕ → Bool) → List ℕ → List Test
-testsFrom k [] values = []
-testsFrom k (field ∷ more) values = limitTest (field (getD values k 0)) ∷ testsFrom (k + 1) more values
+-- the numbers from place k on, by whether each field takes its own
+abbrev pub takenFrom : ℕ → List (ℕ → Bool) → List ℕ → List Bool
+takenFrom k [] values = []
+takenFrom k (field ∷ more) values = field (getD values k 0) ∷ takenFrom (k + 1) more values
 
+abbrev pub numberLimits : List ℕ → List Bool
+numberLimits values = takenFrom 0 takes values
+
+-- refusal 1, with the place of the first field that does not take its number, whether it can't hold it or has a limit below it
 abbrev pub numberTests : List ℕ → List Test
-numberTests values = testsFrom 0 takes values
+numberTests values = limitTests (numberLimits values)
 
 unfoldable pub contextOf : List ℕ → CraftContext
 contextOf values =

@@ -9,6 +9,7 @@ ghost use Rattle.context_line.specs.inner.Fields.{listed, earlyTests, la
 ghost use Rattle.context_line.specs.Read.{read as Reads·read};
 use action_set::ActionSet;
 use craft_context::CraftContext;
+use craft_context::place;
 use refusal::Checked;
 use refusal::Refusal;
 
@@ -47,28 +48,27 @@ const BYTE_MOST: u32 = 255;
 // A flag is 0 or 1, and 1 sets it.
 const FLAG_SET: u32 = 1;
 
-// Refusal 1 for the first field that does not take its number, of those before durability. A level takes any.
+// Refusal 1 for the first field that does not take its number, with its place, of those before durability. A level takes any.
 fn check_early(numbers: Fields) -> Checked
     ensures { λ r. ⌜ r ≡ checksOf (earlyTests (listed numbers)) ⌝ }
 {
-    let refused = Checked::Refused(Refusal::OutsideLimits);
     if numbers.base_progress_factor > CraftContext::FACTOR_MOST {
-        return refused;
+        return Checked::Refused(Refusal::OutsideLimits(place::BASE_PROGRESS_FACTOR));
     }
     if numbers.base_quality_factor > CraftContext::FACTOR_MOST {
-        return refused;
+        return Checked::Refused(Refusal::OutsideLimits(place::BASE_QUALITY_FACTOR));
     }
     if numbers.step_max > BYTE_MOST {
-        return refused;
+        return Checked::Refused(Refusal::OutsideLimits(place::STEP_MAX));
     }
     if numbers.progress_target > CraftContext::TARGET_MOST {
-        return refused;
+        return Checked::Refused(Refusal::OutsideLimits(place::PROGRESS_TARGET));
     }
     if numbers.starting_quality > CraftContext::TARGET_MOST {
-        return refused;
+        return Checked::Refused(Refusal::OutsideLimits(place::STARTING_QUALITY));
     }
     if numbers.quality_target > CraftContext::TARGET_MOST {
-        return refused;
+        return Checked::Refused(Refusal::OutsideLimits(place::QUALITY_TARGET));
     }
     Checked::Passed
 }
@@ -77,27 +77,26 @@ fn check_early(numbers: Fields) -> Checked
 fn check_late(numbers: Fields) -> Checked
     ensures { λ r. ⌜ r ≡ checksOf (lateTests (listed numbers)) ⌝ }
 {
-    let refused = Checked::Refused(Refusal::OutsideLimits);
     if !craft_context::lasts(numbers.durability_max) {
-        return refused;
+        return Checked::Refused(Refusal::OutsideLimits(place::DURABILITY_MAX));
     }
     if numbers.cp_max > CraftContext::TARGET_MOST {
-        return refused;
+        return Checked::Refused(Refusal::OutsideLimits(place::CP_MAX));
     }
     if numbers.is_expert > FLAG_SET {
-        return refused;
+        return Checked::Refused(Refusal::OutsideLimits(place::IS_EXPERT));
     }
     if numbers.action_pool >= ActionSet::LIMIT {
-        return refused;
+        return Checked::Refused(Refusal::OutsideLimits(place::ACTION_POOL));
     }
     if numbers.player_is_specialist > FLAG_SET {
-        return refused;
+        return Checked::Refused(Refusal::OutsideLimits(place::PLAYER_IS_SPECIALIST));
     }
     if numbers.use_manipulation > FLAG_SET {
-        return refused;
+        return Checked::Refused(Refusal::OutsideLimits(place::USE_MANIPULATION));
     }
     if numbers.use_delineation > FLAG_SET {
-        return refused;
+        return Checked::Refused(Refusal::OutsideLimits(place::USE_DELINEATION));
     }
     Checked::Passed
 }
@@ -125,7 +124,7 @@ fn context_of(numbers: Fields) -> CraftContext
     }
 }
 
-// The context of these numbers, or refusal 1 for the first field that does not take its number; no answer tells which.
+// The context of these numbers, or refusal 1 for the first field that does not take its number.
 pub fn from_fields(numbers: Fields) -> Read
     ensures { λ r. ⌜ Says Reads·read (numberTests (listed numbers)) (Read.Context (contextOf (listed numbers))) r ⌝ }
 {
@@ -157,28 +156,28 @@ pub fn from_numbers(values: &[u64]) -> Read
     requires { ⌜ length (now values) ≡ fields ⌝ }
     ensures { λ r. ⌜ Says Reads·read (numberTests (now (values .entry))) (Read.Context (contextOf (now (values .entry)))) r ⌝ }
 {
-    if values[0] > WORD_MOST {
-        return Read::Refused(Refusal::OutsideLimits);
+    if values[place::PLAYER_JOB_LEVEL] > WORD_MOST {
+        return Read::Refused(Refusal::OutsideLimits(place::PLAYER_JOB_LEVEL));
     }
-    if values[1] > WORD_MOST {
-        return Read::Refused(Refusal::OutsideLimits);
+    if values[place::RECIPE_JOB_LEVEL] > WORD_MOST {
+        return Read::Refused(Refusal::OutsideLimits(place::RECIPE_JOB_LEVEL));
     }
     let numbers = Fields {
-        player_job_level: word(values, 0),
-        recipe_job_level: word(values, 1),
-        base_progress_factor: word(values, 2),
-        base_quality_factor: word(values, 3),
-        step_max: word(values, 4),
-        progress_target: word(values, 5),
-        starting_quality: word(values, 6),
-        quality_target: word(values, 7),
-        durability_max: word(values, 8),
-        cp_max: word(values, 9),
-        is_expert: word(values, 10),
-        action_pool: word(values, 11),
-        player_is_specialist: word(values, 12),
-        use_manipulation: word(values, 13),
-        use_delineation: word(values, 14),
+        player_job_level: word(values, place::PLAYER_JOB_LEVEL),
+        recipe_job_level: word(values, place::RECIPE_JOB_LEVEL),
+        base_progress_factor: word(values, place::BASE_PROGRESS_FACTOR),
+        base_quality_factor: word(values, place::BASE_QUALITY_FACTOR),
+        step_max: word(values, place::STEP_MAX),
+        progress_target: word(values, place::PROGRESS_TARGET),
+        starting_quality: word(values, place::STARTING_QUALITY),
+        quality_target: word(values, place::QUALITY_TARGET),
+        durability_max: word(values, place::DURABILITY_MAX),
+        cp_max: word(values, place::CP_MAX),
+        is_expert: word(values, place::IS_EXPERT),
+        action_pool: word(values, place::ACTION_POOL),
+        player_is_specialist: word(values, place::PLAYER_IS_SPECIALIST),
+        use_manipulation: word(values, place::USE_MANIPULATION),
+        use_delineation: word(values, place::USE_DELINEATION),
     };
     from_fields(numbers)
 }

@@ -2,13 +2,14 @@
 -- Assumes nothing.
 use mathlib.Core.Path.{refl}
 use mathlib.Core.Bool.{Bool}
-use mathlib.Core.List.{_++_}
+use mathlib.Core.List.{List, _++_}
 use Prim.Native.Nat.{ℕ}
 use lib.Dec.{leb}
 use Rattle.refusal.specs.declared.Report.{Report}
 use Rattle.refusal.specs.Report.{reportOf, success}
 use Rattle.refusal.specs.Judge.{Kind, Says}
-use Rattle.craft_context.specs.Limits.{buildTests, contextTests}
+use Rattle.refusal.specs.Limits.{limitTests}
+use Rattle.craft_context.specs.Limits.{playerLimits, recipeLimits, optionsLimits, contextLimits}
 use Rattle.craft_context.specs.Factor.{factorOf, progressPlus, qualityPlus}
 use Rattle.craft_context.specs.Pool.{poolOf}
 use Rattle.craft_context.specs.declared.context.CraftContext.{CraftContext}
@@ -60,7 +61,10 @@ builtTold (B.Refused x) = reportOf x
 abbrev pub built : Kind Built
 built = record { told = builtTold; refused = B.Refused; refusing = λ x. refl }
 
--- the numbers to build from are tested first, and then the context that they give
+-- the numbers to build from come first, and then the context that they give
+abbrev pub builderLimits : Player → Recipe → CraftOptions → List Bool
+builderLimits player recipe options =
+    playerLimits player ++ (recipeLimits recipe ++ (optionsLimits options ++ contextLimits (builtOf player recipe options)))
+
 abbrev pub New : Player → Recipe → CraftOptions → Built → Type 0
-New player recipe options r =
-    Says built (buildTests player recipe ++ contextTests (builtOf player recipe options)) (B.Context (builtOf player recipe options)) r
+New player recipe options r = Says built (limitTests (builderLimits player recipe options)) (B.Context (builtOf player recipe options)) r

@@ -1,20 +1,21 @@
--- Document 01, "Limits", the lines "Context" and "Building a context", field by field in order. Outside is refusal 1.
+-- Document 01, "Limits", the lines "Context" and "Building a context", field by field in order. Outside is refusal 1. Document 02, E1: its place is "in
+-- `CraftContext` order for a context, and for the builder player's four, then recipe and options fields in source order, then the built context's".
 -- Assumes nothing.
 use mathlib.Core.Path.{_≡_}
 use mathlib.Core.Bool.{Bool, true, false, _&&_}
-use mathlib.Core.List.{List, [], _∷_}
+use mathlib.Core.List.{List, [], _∷_, _++_}
 use Prim.Native.Nat.{ℕ, _≤_}
 use lib.Dec.{leb}
 use lib.IntN.{ℤ, pos, negsuc}
-use Rattle.refusal.specs.Judge.{Test, checksOf, Checks}
+use Rattle.refusal.specs.Judge.{Test, Checks}
 use Rattle.refusal.specs.declared.Checked.{Checked}
-use Rattle.refusal.specs.declared.Checked.the-variants.{Passed}
-use Rattle.refusal.specs.declared.Refusal.the-variants.{OutsideLimits}
+use Rattle.refusal.specs.Limits.{free, limitTests}
 use Rattle.action.specs.Limits.{factorMost, targetMost}
 use Rattle.action_set.specs.Sets.{SetIn, setTest}
 use Rattle.craft_context.specs.declared.context.CraftContext.{CraftContext}
 use Rattle.craft_context.specs.declared.sheet.Player.{Player}
 use Rattle.craft_context.specs.declared.sheet.Recipe.{Recipe}
+use Rattle.craft_context.specs.declared.sheet.CraftOptions.{CraftOptions}
 
 -- ---- of what a context is built from
 
@@ -38,41 +39,73 @@ abbrev pub durable : ℤ → Bool
 durable (pos n) = leb 1 n && leb n durabilityMost
 durable (negsuc k) = false
 
-abbrev pub limitTest : Bool → Test
-limitTest inside = record { passed = inside; otherwise = OutsideLimits }
-
--- player's fields, then recipe's, in their order
-abbrev pub buildTests : Player → Recipe → List Test
-buildTests player recipe =
-    limitTest (leb (player .craftsmanship) statMost) ∷
-    limitTest (leb (player .control) statMost) ∷
-    limitTest (leb 1 (recipe .«progress_div») && leb (recipe .«progress_div») divMost) ∷
-    limitTest (leb (recipe .«progress_mod») modMost) ∷
-    limitTest (leb 1 (recipe .«quality_div») && leb (recipe .«quality_div») divMost) ∷
-    limitTest (leb (recipe .«quality_mod») modMost) ∷
+-- each field of a context by whether it is inside; a field's place is its position here. Levels, steps and flags have no limit
+abbrev pub contextLimits : CraftContext → List Bool
+contextLimits c =
+    free (c .«player_job_level») ∷
+    free (c .«recipe_job_level») ∷
+    leb (c .«base_progress_factor») factorMost ∷
+    leb (c .«base_quality_factor») factorMost ∷
+    free (c .«step_max») ∷
+    leb (c .«progress_target») targetMost ∷
+    leb (c .«starting_quality») targetMost ∷
+    leb (c .«quality_target») targetMost ∷
+    durable (c .«durability_max») ∷
+    leb (c .«cp_max») targetMost ∷
+    free (c .«is_expert») ∷
+    setTest (c .«action_pool» .0) .passed ∷
+    free (c .«player_is_specialist») ∷
+    free (c .«use_manipulation») ∷
+    free (c .«use_delineation») ∷
     []
 
--- each of them passes
-abbrev pub Buildable : Player → Recipe → Type 0
-Buildable player recipe = checksOf (buildTests player recipe) ≡ Passed
-
--- levels, steps and flags have no limit
 abbrev pub contextTests : CraftContext → List Test
-contextTests c =
-    limitTest (leb (c .«base_progress_factor») factorMost) ∷
-    limitTest (leb (c .«base_quality_factor») factorMost) ∷
-    limitTest (leb (c .«progress_target») targetMost) ∷
-    limitTest (leb (c .«starting_quality») targetMost) ∷
-    limitTest (leb (c .«quality_target») targetMost) ∷
-    limitTest (durable (c .«durability_max»)) ∷
-    limitTest (leb (c .«cp_max») targetMost) ∷
-    setTest (c .«action_pool» .0) ∷
-    []
+contextTests c = limitTests (contextLimits c)
 
 abbrev pub ChecksContext : CraftContext → Checked → Type 0
 ChecksContext c r = Checks (contextTests c) r
 
--- each of them passes, as facts: `context-in` and `context-passes` (specs/laws/Limits.antt) lead from one to the other
+-- ---- of what a context is built from, in its order; what only the context limits is tested there
+
+abbrev pub playerLimits : Player → List Bool
+playerLimits player =
+    free (player .«job_level») ∷
+    leb (player .craftsmanship) statMost ∷
+    leb (player .control) statMost ∷
+    free (player .cp) ∷
+    []
+
+abbrev pub divides : ℕ → Bool
+divides n = leb 1 n && leb n divMost
+
+abbrev pub recipeLimits : Recipe → List Bool
+recipeLimits recipe =
+    free (recipe .«recipe_level») ∷
+    free (recipe .«job_level») ∷
+    free (recipe .stars) ∷
+    free (recipe .progress) ∷
+    free (recipe .quality) ∷
+    free (recipe .durability) ∷
+    divides (recipe .«progress_div») ∷
+    leb (recipe .«progress_mod») modMost ∷
+    divides (recipe .«quality_div») ∷
+    leb (recipe .«quality_mod») modMost ∷
+    free (recipe .«is_expert») ∷
+    free (recipe .«conditions_flag») ∷
+    []
+
+abbrev pub optionsLimits : CraftOptions → List Bool
+optionsLimits options =
+    free (options .«max_steps») ∷
+    free (options .«starting_quality») ∷
+    free (options .«quality_target») ∷
+    free (options .«player_is_specialist») ∷
+    free (options .«use_manipulation») ∷
+    free (options .«use_delineation») ∷
+    []
+
+-- ---- the limits of a context as facts: `context-in` and `context-passes` (specs/laws/Limits.antt) lead from its tests to them and back
+
 pub record ContextIn (c : CraftContext) : Type 0 where
   pub baseProgress : c .«base_progress_factor» ≤ factorMost
   pub baseQuality : c .«base_quality_factor» ≤ factorMost

@@ -1,11 +1,11 @@
 // A context from player, recipe and options.
 ghost use mathlib.Core.Path.{_≡_};
-ghost use mathlib.Core.Bool.{_&&_};
-ghost use lib.Dec.{leb};
 ghost use Rattle.refusal.specs.Judge.{checksOf};
-ghost use Rattle.craft_context.specs.Limits.{divMost, buildTests, Buildable};
+ghost use Rattle.craft_context.specs.Limits.{divides as Limits·divides};
+ghost use Rattle.craft_context.specs.inner.Build.{sheetTests, Buildable};
 ghost use Rattle.craft_context.specs.Build.{givenOr, builtOf, New};
 use super::context::CraftContext;
+use super::context::check_from;
 use super::factor::base_factor;
 use super::pool::determine_action_pool;
 use super::sheet::CraftOptions;
@@ -22,12 +22,28 @@ pub enum Built {
     Refused(Refusal),
 }
 
+// The places that refusal 1 tells, of what has a limit of its own: player's four fields come first, then recipe's twelve and options' six, then those of the
+// built context.
+const CRAFTSMANSHIP: usize = 1;
+
+const CONTROL: usize = 2;
+
+const PROGRESS_DIV: usize = 10;
+
+const PROGRESS_MOD: usize = 11;
+
+const QUALITY_DIV: usize = 12;
+
+const QUALITY_MOD: usize = 13;
+
+const CONTEXT: usize = 22;
+
 const PROGRESS_PLUS: u32 = 2;
 
 const QUALITY_PLUS: u32 = 35;
 
 fn divides(div: u32) -> bool
-    ensures { λ r. ⌜ r ≡ (leb 1 div && leb div divMost) ⌝ }
+    ensures { λ r. ⌜ r ≡ Limits·divides div ⌝ }
 {
     if div < 1 {
         return false;
@@ -35,28 +51,27 @@ fn divides(div: u32) -> bool
     div <= CraftContext::DIV_MOST
 }
 
-// Refusal 1: a number to build from is outside its limit, whether it is used or not.
+// Refusal 1: a number to build from is outside its limit, whether it is used or not. The place is of the first.
 fn check_build(player: Player, recipe: Recipe) -> Checked
-    ensures { λ r. ⌜ r ≡ checksOf (buildTests player recipe) ⌝ }
+    ensures { λ r. ⌜ r ≡ checksOf (sheetTests player recipe) ⌝ }
 {
-    let refused = Checked::Refused(Refusal::OutsideLimits);
     if player.craftsmanship > CraftContext::STAT_MOST {
-        return refused;
+        return Checked::Refused(Refusal::OutsideLimits(CRAFTSMANSHIP));
     }
     if player.control > CraftContext::STAT_MOST {
-        return refused;
+        return Checked::Refused(Refusal::OutsideLimits(CONTROL));
     }
     if !divides(recipe.progress_div) {
-        return refused;
+        return Checked::Refused(Refusal::OutsideLimits(PROGRESS_DIV));
     }
     if recipe.progress_mod > CraftContext::MOD_MOST {
-        return refused;
+        return Checked::Refused(Refusal::OutsideLimits(PROGRESS_MOD));
     }
     if !divides(recipe.quality_div) {
-        return refused;
+        return Checked::Refused(Refusal::OutsideLimits(QUALITY_DIV));
     }
     if recipe.quality_mod > CraftContext::MOD_MOST {
-        return refused;
+        return Checked::Refused(Refusal::OutsideLimits(QUALITY_MOD));
     }
     Checked::Passed
 }
@@ -119,7 +134,7 @@ impl CraftContext {
             return Built::Refused(x);
         }
         let context = build(player, recipe, options);
-        let inside = context.check();
+        let inside = check_from(context, CONTEXT);
         if let Checked::Refused(x) = inside {
             return Built::Refused(x);
         }

@@ -1,7 +1,12 @@
 // The context, and the test of any context against its limits.
 ghost use mathlib.Core.Path.{_≡_};
+ghost use Prim.Native.Nat.{_≤_};
 ghost use lib.IntN.{pos};
-ghost use Rattle.craft_context.specs.Limits.{durable, ChecksContext};
+ghost use Rattle.refusal.specs.Judge.{checksOf};
+ghost use Rattle.refusal.specs.Limits.{limitsFrom};
+ghost use Rattle.craft_context.specs.Limits.{durable, contextLimits, ChecksContext};
+ghost use Rattle.craft_context.specs.inner.Build.{contextFirst};
+use super::place;
 use action_set::ActionSet;
 use refusal::Checked;
 use refusal::Refusal;
@@ -58,33 +63,43 @@ impl CraftContext {
 
     pub const DURABILITY_MOST: u32 = 97;
 
-    // Refusal 1: a field is outside its limit. Levels, steps and flags have none.
+    // Refusal 1: a field is outside its limit.
     pub fn check(self) -> Checked
         ensures { λ r. ⌜ ChecksContext self r ⌝ }
     {
-        let refused = Checked::Refused(Refusal::OutsideLimits);
-        if self.base_progress_factor > CraftContext::FACTOR_MOST {
-            return refused;
-        }
-        if self.base_quality_factor > CraftContext::FACTOR_MOST {
-            return refused;
-        }
-        if self.progress_target > CraftContext::TARGET_MOST {
-            return refused;
-        }
-        if self.starting_quality > CraftContext::TARGET_MOST {
-            return refused;
-        }
-        if self.quality_target > CraftContext::TARGET_MOST {
-            return refused;
-        }
-        if !is_durable(self.durability_max) {
-            return refused;
-        }
-        if self.cp_max > CraftContext::TARGET_MOST {
-            return refused;
-        }
-        let pool = self.action_pool;
-        pool.check()
+        check_from(self, 0)
     }
+}
+
+// For the first field that is outside, with its place, where the first field of all has the place `first`. Levels, steps and flags have no limit.
+pub fn check_from(context: CraftContext, first: usize) -> Checked
+    requires { ⌜ first ≤ contextFirst ⌝ }
+    ensures { λ r. ⌜ r ≡ checksOf (limitsFrom first 0 (contextLimits context)) ⌝ }
+{
+    if context.base_progress_factor > CraftContext::FACTOR_MOST {
+        return Checked::Refused(Refusal::OutsideLimits(first + place::BASE_PROGRESS_FACTOR));
+    }
+    if context.base_quality_factor > CraftContext::FACTOR_MOST {
+        return Checked::Refused(Refusal::OutsideLimits(first + place::BASE_QUALITY_FACTOR));
+    }
+    if context.progress_target > CraftContext::TARGET_MOST {
+        return Checked::Refused(Refusal::OutsideLimits(first + place::PROGRESS_TARGET));
+    }
+    if context.starting_quality > CraftContext::TARGET_MOST {
+        return Checked::Refused(Refusal::OutsideLimits(first + place::STARTING_QUALITY));
+    }
+    if context.quality_target > CraftContext::TARGET_MOST {
+        return Checked::Refused(Refusal::OutsideLimits(first + place::QUALITY_TARGET));
+    }
+    if !is_durable(context.durability_max) {
+        return Checked::Refused(Refusal::OutsideLimits(first + place::DURABILITY_MAX));
+    }
+    if context.cp_max > CraftContext::TARGET_MOST {
+        return Checked::Refused(Refusal::OutsideLimits(first + place::CP_MAX));
+    }
+    let pool = context.action_pool;
+    if pool.0 >= ActionSet::LIMIT {
+        return Checked::Refused(Refusal::OutsideLimits(first + place::ACTION_POOL));
+    }
+    Checked::Passed
 }

@@ -2,6 +2,7 @@
 mod build;
 mod context;
 mod factor;
+pub mod place;
 mod pool;
 mod sheet;
 

@@ -40,7 +40,7 @@ lastedOf (L.Refused x) = refusedOf x
 
 -- the refusals with which a value comes back
 abbrev hasValue : ℕ → Bool
-hasValue number = eqb number 3 || eqb number 5 || eqb number 6
+hasValue number = eqb number 1 || eqb number 3 || eqb number 5 || eqb number 6
 
 abbrev pub reportIn : CraftyAnswer → Report
 reportIn answer = record { 0 = answer .number; 1 = cond (hasValue (answer .number)) (Value (answer .value)) Nothing }
@@ -50,7 +50,7 @@ abbrev pub answered : Kind CraftyAnswer
 answered = record { told = reportIn; refused = refusedOf; refusing = readable }
   where
     readable : (x : Refusal) → reportIn (refusedOf x) ≡ reportOf x
-    readable X.OutsideLimits = refl
+    readable (X.OutsideLimits place) = refl
     readable X.StateOutOfRange = refl
     readable (X.UnknownAction place) = refl
     readable X.IllegalAction = refl

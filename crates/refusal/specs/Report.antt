@@ -18,7 +18,7 @@ abbrev pub success : Report
 success = bare 0
 
 abbrev pub reportOf : Refusal → Report
-reportOf R.OutsideLimits = bare 1
+reportOf (R.OutsideLimits place) = with 1 place
 reportOf R.StateOutOfRange = bare 2
 reportOf (R.UnknownAction place) = with 3 place
 reportOf R.IllegalAction = bare 4

@@ -6,8 +6,8 @@ use Also::Nothing;
 use Also::Value;
 
 pub enum Refusal {
-    // A context, set or builder number is outside its limit.
-    OutsideLimits,
+    // A context, set or builder number is outside its limit: the first such field's place, 0 for a set.
+    OutsideLimits(usize),
     StateOutOfRange,
     // An action number above 30: the first place, 0 for a single one.
     UnknownAction(usize),
@@ -47,7 +47,7 @@ impl Refusal {
         ensures { λ r. ⌜ r ≡ reportOf self ⌝ }
     {
         match self {
-            Refusal::OutsideLimits => Report(1, Nothing),
+            Refusal::OutsideLimits(place) => Report(1, Value(place)),
             Refusal::StateOutOfRange => Report(2, Nothing),
             Refusal::UnknownAction(place) => Report(3, Value(place)),
             Refusal::IllegalAction => Report(4, Nothing),

@@ -13,12 +13,13 @@ use Rattle.laws.specs.laws.Lists.{drop-at}
 use Rattle.laws.specs.laws.Tests.{true-false, both, and-false, either}
 use Rattle.refusal.specs.declared.Checked.the-variants.{Passed}
 use Rattle.refusal.specs.Judge.{judged, checksOf}
-use Rattle.refusal.specs.laws.Judge.{shown}
+use Rattle.refusal.specs.Limits.{limitTests}
+use Rattle.refusal.specs.laws.Limits.{all-inside}
 use Rattle.action.specs.Known.{actions}
 use Rattle.action.specs.Limits.{factorMost, targetMost}
 use Rattle.craft_context.specs.Limits.{durabilityMost, ContextIn}
 use Rattle.context_line.specs.Shape.{fields}
-use Rattle.context_line.specs.Fields.{wordMost, byteMost, flagSet, upTo, takesDurability, takesSet, takes, testsFrom, numberTests, contextOf}
+use Rattle.context_line.specs.Fields.{wordMost, byteMost, flagSet, upTo, takesDurability, takesSet, takes, takenFrom, numberLimits, numberTests, contextOf}
 use Rattle.context_line.specs.inner.Fields.{wordOf}
 
 -- ---- THE law of the tests: all pass exactly where the context is inside its limits, and the fields without one take their numbers
@@ -36,40 +37,26 @@ pub record Taken (values : List ℕ) : Type 0 where
 pub passed-taken : (values : List ℕ) → Passed ≡ checksOf (numberTests values) → Taken values
 unfolding contextOf
 passed-taken values p =
-    let s0 = shown _ _ p refl in
-    let s1 = shown _ _ (s0 .1) refl in
-    let s2 = shown _ _ (s1 .1) refl in
-    let s3 = shown _ _ (s2 .1) refl in
-    let s4 = shown _ _ (s3 .1) refl in
-    let s5 = shown _ _ (s4 .1) refl in
-    let s6 = shown _ _ (s5 .1) refl in
-    let s7 = shown _ _ (s6 .1) refl in
-    let s8 = shown _ _ (s7 .1) refl in
-    let s9 = shown _ _ (s8 .1) refl in
-    let s10 = shown _ _ (s9 .1) refl in
-    let s11 = shown _ _ (s10 .1) refl in
-    let s12 = shown _ _ (s11 .1) refl in
-    let s13 = shown _ _ (s12 .1) refl in
-    let s14 = shown _ _ (s13 .1) refl in
+    let taken = all-inside (numberLimits values) p in
     record {
       inside =
           record {
-            baseProgress = leb-true _ _ (s2 .0);
-            baseQuality = leb-true _ _ (s3 .0);
-            progressTarget = leb-true _ _ (s5 .0);
-            startingQuality = leb-true _ _ (s6 .0);
-            qualityTarget = leb-true _ _ (s7 .0);
-            durability = s8 .0;
-            cpMax = leb-true _ _ (s9 .0);
-            pool = ltb-true _ _ (s11 .0);
+            baseProgress = leb-true _ _ (taken 2);
+            baseQuality = leb-true _ _ (taken 3);
+            progressTarget = leb-true _ _ (taken 5);
+            startingQuality = leb-true _ _ (taken 6);
+            qualityTarget = leb-true _ _ (taken 7);
+            durability = taken 8;
+            cpMax = leb-true _ _ (taken 9);
+            pool = ltb-true _ _ (taken 11);
           };
-      playerLevel = leb-true _ _ (s0 .0);
-      recipeLevel = leb-true _ _ (s1 .0);
-      steps = leb-true _ _ (s4 .0);
-      expert = leb-true _ _ (s10 .0);
-      specialist = leb-true _ _ (s12 .0);
-      manipulation = leb-true _ _ (s13 .0);
-      delineation = leb-true _ _ (s14 .0);
+      playerLevel = leb-true _ _ (taken 0);
+      recipeLevel = leb-true _ _ (taken 1);
+      steps = leb-true _ _ (taken 4);
+      expert = leb-true _ _ (taken 10);
+      specialist = leb-true _ _ (taken 12);
+      manipulation = leb-true _ _ (taken 13);
+      delineation = leb-true _ _ (taken 14);
     }
 
 pub taken-passed : (values : List ℕ) → Taken values → Passed ≡ checksOf (numberTests values)
@@ -143,15 +130,23 @@ word-at [] k = refl
 word-at (n ∷ values) zero = refl
 word-at (n ∷ values) (suc k) = word-at values k
 
-tests-words : (some : List (ℕ → Bool)) → Each Narrow some → (values : List ℕ) (k : ℕ) → testsFrom k some (map wordOf values) ≡ testsFrom k some values
-tests-words [] h values k = refl
-tests-words (field ∷ more) h values k =
-    rw (word-at values k, narrow-same field (h .0) (getD values k 0), tests-words more (h .1) values (k + 1))
+taken-words : (some : List (ℕ → Bool)) → Each Narrow some → (values : List ℕ) (k : ℕ) → takenFrom k some (map wordOf values) ≡ takenFrom k some values
+taken-words [] h values k = refl
+taken-words (field ∷ more) h values k =
+    rw (word-at values k, narrow-same field (h .0) (getD values k 0), taken-words more (h .1) values (k + 1))
 
 -- fifteen numbers of which the levels are u32
 pub numbers-words : (values : List ℕ) → getD values 0 0 ≤ wordMost → getD values 1 0 ≤ wordMost → numberTests (map wordOf values) ≡ numberTests values
 numbers-words values f g =
-    rw (word-at values 0, word-same _ f, word-at values 1, word-same _ g, tests-words (drop 2 takes) others-narrow values 2)
+    let level : (k : ℕ) → getD values k 0 ≤ wordMost → upTo wordMost (getD (map wordOf values) k 0) ≡ upTo wordMost (getD values k 0) =
+    λ k h. rw (word-at values k, word-same _ h)
+    in
+    let rest : List Bool = takenFrom 2 (drop 2 takes) (map wordOf values) in
+    ap limitTests (
+    ap (λ (b : Bool). b ∷ upTo wordMost (getD (map wordOf values) 1 0) ∷ rest) (level 0 f)
+    ∙ ap (λ (b : Bool). upTo wordMost (getD values 0 0) ∷ b ∷ rest) (level 1 g)
+    ∙ ap (λ (more : List Bool). upTo wordMost (getD values 0 0) ∷ upTo wordMost (getD values 1 0) ∷ more) (taken-words (drop 2 takes) others-narrow values 2)
+    )
 
 -- and where each is taken, it is a u32
 narrow-word : (field : ℕ → Bool) → Narrow field → TakesWords field
@@ -166,20 +161,19 @@ each-narrow [] h = tt
 each-narrow (field ∷ more) h = (narrow-word field (h .0), each-narrow more (h .1))
 
 rest-words : (some : List (ℕ → Bool)) → Each TakesWords some → (values : List ℕ) (k : ℕ) → length values ≡ k + length some
-    → Passed ≡ checksOf (testsFrom k some values) → map wordOf (drop k values) ≡ drop k values
-rest-words [] h values k e p = rw (drop-of-length-le values {i = k} (omega arith))
-rest-words (field ∷ more) h values k e p =
-    let s = shown _ _ p refl in
+    → ((j : ℕ) → getD (takenFrom k some values) j true ≡ true) → map wordOf (drop k values) ≡ drop k values
+rest-words [] h values k e t = rw (drop-of-length-le values {i = k} (omega arith))
+rest-words (field ∷ more) h values k e t =
     rw (
       drop-at values k (omega arith),
-      word-same _ (h .0 _ (s .0)),
-      rest-words more (h .1) values (k + 1) (omega arith) (s .1),
+      word-same _ (h .0 _ (t 0)),
+      rest-words more (h .1) values (k + 1) (omega arith) (λ j. t (suc j)),
     )
 
 pub passed-words : (values : List ℕ) → length values ≡ fields → Passed ≡ checksOf (numberTests values) → map wordOf values ≡ values
 passed-words values e p =
     let level : TakesWords (upTo wordMost) = λ n t. leb-true n wordMost t in
-    rest-words takes (level, (level, each-narrow (drop 2 takes) others-narrow)) values 0 e p
+    rest-words takes (level, (level, each-narrow (drop 2 takes) others-narrow)) values 0 e (all-inside (numberLimits values) p)
 
 -- ---- fifteen numbers by their places
 

@@ -45,17 +45,24 @@ pub malformed :
 unfolding shaped
 malformed = (refl, refl, refl, refl, refl, refl, refl, refl, refl, refl)
 
--- inside the limits, also with a level of 2 ^ 32 - 1; a level of 2 ^ 32, step_max 256, durability_max 98 and 0, a pool of 2 ^ 31, a flag of 2;
--- and a malformed line whose first number is too large
+-- inside the limits, also with a level of 2 ^ 32 - 1; a level of 2 ^ 32, step_max 256, durability_max 98 and 0, a pool of 2 ^ 31, a flag of 2, each by its
+-- place; and a malformed line whose first number is too large
 pub answers :
     (checksOf (lineTests example) ≡ Passed) ×
     (checksOf (lineTests (bytes "50 4294967295 100 100 8 200 0 0 40 100 0 33 0 0 0")) ≡ Passed) ×
-    (checksOf (lineTests (bytes "4294967296 50 100 100 8 200 0 0 40 100 0 33 0 0 0")) ≡ Refused OutsideLimits) ×
-    (checksOf (lineTests (bytes "50 50 100 100 256 200 0 0 40 100 0 33 0 0 0")) ≡ Refused OutsideLimits) ×
-    (checksOf (lineTests (bytes "50 50 100 100 8 200 0 0 98 100 0 33 0 0 0")) ≡ Refused OutsideLimits) ×
-    (checksOf (lineTests (bytes "50 50 100 100 8 200 0 0 0 100 0 33 0 0 0")) ≡ Refused OutsideLimits) ×
-    (checksOf (lineTests (bytes "50 50 100 100 8 200 0 0 40 100 0 2147483648 0 0 0")) ≡ Refused OutsideLimits) ×
-    (checksOf (lineTests (fourteen ++ bytes " 2")) ≡ Refused OutsideLimits) ×
+    (checksOf (lineTests (bytes "4294967296 50 100 100 8 200 0 0 40 100 0 33 0 0 0")) ≡ Refused (OutsideLimits 0)) ×
+    (checksOf (lineTests (bytes "50 50 100 100 256 200 0 0 40 100 0 33 0 0 0")) ≡ Refused (OutsideLimits 4)) ×
+    (checksOf (lineTests (bytes "50 50 100 100 8 200 0 0 98 100 0 33 0 0 0")) ≡ Refused (OutsideLimits 8)) ×
+    (checksOf (lineTests (bytes "50 50 100 100 8 200 0 0 0 100 0 33 0 0 0")) ≡ Refused (OutsideLimits 8)) ×
+    (checksOf (lineTests (bytes "50 50 100 100 8 200 0 0 40 100 0 2147483648 0 0 0")) ≡ Refused (OutsideLimits 11)) ×
+    (checksOf (lineTests (fourteen ++ bytes " 2")) ≡ Refused (OutsideLimits 14)) ×
     (checksOf (lineTests (bytes "4294967296 50 100 100 8 200 0 0 40 100 0 33 0 0")) ≡ Refused MalformedLine)
 unfolding judged shaped valuesOf
 answers = (refl, refl, refl, refl, refl, refl, refl, refl, refl)
+
+-- of two the first, whatever is wrong with it: a factor above its limit before a step_max that is no byte, a flag of 2 before a pool above its limit
+pub first-of-two :
+    (checksOf (lineTests (bytes "50 50 200071 100 256 200 0 0 40 100 0 33 0 0 0")) ≡ Refused (OutsideLimits 2)) ×
+    (checksOf (lineTests (bytes "50 50 100 100 8 200 0 0 40 100 2 2147483648 0 0 0")) ≡ Refused (OutsideLimits 10))
+unfolding judged shaped valuesOf
+first-of-two = (refl, refl)

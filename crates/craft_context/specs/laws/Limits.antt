@@ -1,6 +1,6 @@
 -- Laws of the limits.
 -- Assumes nothing.
-use mathlib.Core.Path.{_≡_, sym}
+use mathlib.Core.Path.{_≡_, sym, _∙_}
 use mathlib.Core.Bool.{true}
 use Prim.Native.Nat.{_≤_, _<_}
 use native.Mathlib.Omega.{arith}
@@ -12,8 +12,8 @@ use Rattle.laws.specs.laws.Raise.{raise}
 use Rattle.refusal.specs.declared.Checked.{Checked}
 use Rattle.refusal.specs.declared.Checked.the-variants.{Passed}
 use Rattle.refusal.specs.Judge.{judged, checksOf}
-use Rattle.refusal.specs.laws.Judge.{shown}
-use Rattle.craft_context.specs.Limits.{durable, durabilityMost, contextTests, ContextIn}
+use Rattle.refusal.specs.laws.Limits.{all-inside}
+use Rattle.craft_context.specs.Limits.{durable, durabilityMost, contextLimits, contextTests, ContextIn}
 use Rattle.craft_context.specs.declared.context.CraftContext.{CraftContext}
 
 -- 1..=97, raised
@@ -26,23 +26,16 @@ durable-raised (negsuc k) e = absurd (true-false (sym e))
 -- a context is inside its limits exactly where each of its tests passes
 pub context-in : (c : CraftContext) {checked : Checked} → checked ≡ checksOf (contextTests c) → checked ≡ Passed → ContextIn c
 context-in c e p =
-    let s1 = shown _ _ e p in
-    let s2 = shown _ _ (s1 .1) p in
-    let s3 = shown _ _ (s2 .1) p in
-    let s4 = shown _ _ (s3 .1) p in
-    let s5 = shown _ _ (s4 .1) p in
-    let s6 = shown _ _ (s5 .1) p in
-    let s7 = shown _ _ (s6 .1) p in
-    let s8 = shown _ _ (s7 .1) p in
+    let inside = all-inside (contextLimits c) (sym p ∙ e) in
     record {
-      baseProgress = leb-true _ _ (s1 .0);
-      baseQuality = leb-true _ _ (s2 .0);
-      progressTarget = leb-true _ _ (s3 .0);
-      startingQuality = leb-true _ _ (s4 .0);
-      qualityTarget = leb-true _ _ (s5 .0);
-      durability = s6 .0;
-      cpMax = leb-true _ _ (s7 .0);
-      pool = ltb-true _ _ (s8 .0);
+      baseProgress = leb-true _ _ (inside 2);
+      baseQuality = leb-true _ _ (inside 3);
+      progressTarget = leb-true _ _ (inside 5);
+      startingQuality = leb-true _ _ (inside 6);
+      qualityTarget = leb-true _ _ (inside 7);
+      durability = inside 8;
+      cpMax = leb-true _ _ (inside 9);
+      pool = ltb-true _ _ (inside 11);
     }
 
 pub context-passes : (c : CraftContext) → ContextIn c → checksOf (contextTests c) ≡ Passed

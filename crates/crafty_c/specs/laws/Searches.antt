@@ -7,19 +7,21 @@ use Prim.Native.Nat.{ℕ}
 use native.Mathlib.Omega.{arith}
 use lib.Ieee.{Float}
 use Rattle.refusal.specs.declared.Refusal.{Refusal}
-use Rattle.refusal.specs.declared.Refusal.the-variants as X
+use Rattle.refusal.specs.declared.Refusal.the-variants.{OutsideLimits}
 use Rattle.refusal.specs.declared.Report.{Report}
 use Rattle.refusal.specs.declared.Checked.{Checked}
 use Rattle.refusal.specs.declared.Checked.the-variants.{Passed, Refused}
 use Rattle.refusal.specs.Report.{reportOf}
 use Rattle.refusal.specs.Judge.{checksOf, Says}
 use Rattle.refusal.specs.Demands.{numberOf, Among}
+use Rattle.refusal.specs.Limits.{FirstOutside}
 use Rattle.refusal.specs.laws.Judge.{judged-passed, judged-refused, checks, checks-on-by}
 use Rattle.refusal.specs.laws.Demands.{number-among}
+use Rattle.refusal.specs.laws.Limits.{refused-outside}
 use Rattle.craft_context.specs.declared.context.CraftContext.{CraftContext}
 use Rattle.craft_context.specs.laws.Limits.{context-passes}
 use Rattle.context_line.specs.declared.fields.Read.the-variants as R
-use Rattle.context_line.specs.Fields.{contextOf, numberTests}
+use Rattle.context_line.specs.Fields.{contextOf, numberLimits, numberTests}
 use Rattle.context_line.specs.Read.{read}
 use Rattle.context_line.specs.laws.Fields.{passed-taken}
 use Rattle.context_line.specs.laws.Read.{read-context, read-refused}
@@ -126,25 +128,7 @@ module _ {values : List ℕ} {o : SearchOptions} {logs : List Float} {draws : Li
           later (inl a) = inl (subst (λ (report : Report). Among (6 ∷ 19 ∷ 20 ∷ []) (report .0)) (sym (s .number ∙ sym (judged-passed reportOf _ (numberTests values) e))) a)
           later (inr same) = inr (s .records ∙ sym (judged-passed (λ y. nodes) _ (numberTests values) e) ∙ same)
 
--- ---- refusal 1 comes of the numbers alone, and then all else is 0
-
-outside-is : (x : Refusal) → numberOf x ≡ 1 → x ≡ X.OutsideLimits
-outside-is X.OutsideLimits e = refl
-outside-is X.StateOutOfRange e = absurd (omega arith)
-outside-is (X.UnknownAction place) e = absurd (omega arith)
-outside-is X.IllegalAction e = absurd (omega arith)
-outside-is (X.UnknownWord offset) e = absurd (omega arith)
-outside-is (X.NoRoom needed) e = absurd (omega arith)
-outside-is X.UnsoundTree e = absurd (omega arith)
-outside-is X.UnknownNode e = absurd (omega arith)
-outside-is X.NotAbove e = absurd (omega arith)
-outside-is X.BadScore e = absurd (omega arith)
-outside-is X.VisitsFull e = absurd (omega arith)
-outside-is X.MalformedLine e = absurd (omega arith)
-outside-is X.TooLong e = absurd (omega arith)
-outside-is X.NoDraw e = absurd (omega arith)
-outside-is X.DrawTooHigh e = absurd (omega arith)
-outside-is X.BadSearch e = absurd (omega arith)
+-- ---- refusal 1 comes of the numbers alone: its value is the first field outside, and all else is 0
 
 never-1 : {n : ℕ} → Among (21 ∷ 6 ∷ 19 ∷ 20 ∷ []) n → n ≡ 1 → ⊥
 never-1 (inl e) one = omega arith
@@ -155,17 +139,21 @@ never-1 (inr (inr (inr (inr e)))) one = omega arith
 
 pub outside-zero : (values : List ℕ) (o : SearchOptions) (logs : List Float) (draws : List ℕ) (nodes : List Node) (out : List ℕ)
     {r : CraftyFound} {after : List Node} {written : List ℕ} → TellsSearched values o logs draws nodes out r after written → r .number ≡ 1
-    → r ≡ outsideOf X.OutsideLimits
+    → FirstOutside (numberLimits values) (r .value) × (r ≡ outsideOf (OutsideLimits (r .value)))
 outside-zero values o logs draws nodes out {r} s one = by (checksOf (numberTests values)) refl
   where
     c : CraftContext
     c = contextOf values
 
-    by : (k : Checked) → k ≡ checksOf (numberTests values) → r ≡ outsideOf X.OutsideLimits
+    by : (k : Checked) → k ≡ checksOf (numberTests values)
+        → FirstOutside (numberLimits values) (r .value) × (r ≡ outsideOf (OutsideLimits (r .value)))
     by (Refused x) e =
-        let told : foundTold r ≡ reportOf x = s .number ∙ sym (judged-refused reportOf _ (numberTests values) e) in
-        let is : x ≡ X.OutsideLimits = outside-is x (sym (ap (λ (report : Report). report .0) told) ∙ one) in
-        s .same ∙ sym (judged-refused outsideOf _ (numberTests values) e) ∙ ap outsideOf is
+        let o = refused-outside (numberLimits values) e in
+        let same : r ≡ outsideOf (OutsideLimits (o .place)) =
+        s .same ∙ sym (judged-refused outsideOf _ (numberTests values) e) ∙ ap outsideOf (o .told)
+        in
+        let place : o .place ≡ r .value = sym (ap (λ (found : CraftyFound). found .value) same) in
+        (subst (FirstOutside (numberLimits values)) place (o .first), same ∙ ap (λ (p : ℕ). outsideOf (OutsideLimits p)) place)
     by Passed e =
         let told : foundTold r ≡ searchedTold (searchedOf c o logs draws nodes out) = s .number ∙ sym (judged-passed reportOf _ (numberTests values) e) in
         let inside = context-passes c (passed-taken values e .inside) in

@@ -39,7 +39,7 @@ total-refusing {tests = tests} s = subst (Settled tests) (sym (s .number)) (sett
 
 -- no refusal is told by 0, so 0 is told where every test passed, and there only
 pub refusal-is-not-0 : (x : Refusal) → numberOf x ≡ 0 → ⊥
-refusal-is-not-0 X.OutsideLimits e = omega arith
+refusal-is-not-0 (X.OutsideLimits place) e = omega arith
 refusal-is-not-0 X.StateOutOfRange e = omega arith
 refusal-is-not-0 (X.UnknownAction place) e = omega arith
 refusal-is-not-0 X.IllegalAction e = omega arith

@@ -12,14 +12,14 @@ use Rattle.refusal.specs.declared.Checked.the-variants.{Passed, Refused}
 use Rattle.refusal.specs.Report.{reportOf, success}
 use Rattle.refusal.specs.Judge.{Test, judged, checkedOf, checksOf, roomTest, sizeMost, sizeTest, Kind, Says, Writes, checking, Checks}
 
-refused-passed : {x : Refusal} → Refused x ≡ Passed → ⊥
+pub refused-passed : {x : Refusal} → Refused x ≡ Passed → ⊥
 refused-passed e = let z : _≡_ {A = ℕ} 0 1 = cc in omega arith
 
 -- ---- tests before others, `rest`
 
 module _ {A : Type 0} (refused : Refusal → A) (answer : A) (rest : List Test) where
   -- one of them fails
-  stops : (tests : List Test) {x : Refusal} → Refused x ≡ checksOf tests → refused x ≡ judged refused answer (tests ++ rest)
+  pub stops : (tests : List Test) {x : Refusal} → Refused x ≡ checksOf tests → refused x ≡ judged refused answer (tests ++ rest)
   unfolding judged
   stops [] e = absurd (refused-passed e)
   stops (t ∷ more) {x} e = by (t .passed) (λ f. stops more f) e
@@ -31,7 +31,7 @@ module _ {A : Type 0} (refused : Refusal → A) (answer : A) (rest : List Test) 
       by false later e = let same : x ≡ t .otherwise = cc in ap refused same
 
   -- all pass, and the rest decides
-  passes : (tests : List Test) → Passed ≡ checksOf tests → judged refused answer rest ≡ judged refused answer (tests ++ rest)
+  pub passes : (tests : List Test) → Passed ≡ checksOf tests → judged refused answer rest ≡ judged refused answer (tests ++ rest)
   unfolding judged
   passes [] e = refl
   passes (t ∷ more) e = by (t .passed) (passes more) e

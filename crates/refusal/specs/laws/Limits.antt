@@ -1,0 +1,141 @@
+-- Laws of refusal 1, over any fields: its place is that of the first field outside its limit, and of no other.
+-- Assumes nothing.
+use mathlib.Core.Path.{_≡_, refl, sym, ap, subst, _∙_}
+use mathlib.Core.Bool.{Bool, true, false, cond}
+use mathlib.Core.List.{List, [], _∷_, _++_}
+use Prim.Native.Nat.{ℕ, zero, suc, _+_, _<_}
+use native.Mathlib.Omega.{arith}
+use lib.ListN.{getD}
+use Rattle.refusal.specs.declared.Refusal.{Refusal}
+use Rattle.refusal.specs.declared.Refusal.the-variants.{OutsideLimits}
+use Rattle.refusal.specs.declared.Also.the-variants.{Value}
+use Rattle.refusal.specs.declared.Report.{Report}
+use Rattle.refusal.specs.declared.Checked.{Checked}
+use Rattle.refusal.specs.declared.Checked.the-variants.{Passed, Refused}
+use Rattle.refusal.specs.Report.{reportOf, success}
+use Rattle.refusal.specs.Judge.{Test, judged, checksOf, Kind, Says}
+use Rattle.refusal.specs.Demands.{numberOf}
+use Rattle.refusal.specs.Limits.{limitsFrom, limitTests, FirstOutside}
+use Rattle.refusal.specs.laws.Judge.{refused-passed, stops, passes, judged-passed, judged-refused, shown}
+
+-- ---- THE law of the tests in order: what they refuse tells the first field outside
+
+-- of the fields from the k-th on
+record Met (first k : ℕ) (fields : List Bool) (x : Refusal) : Type 0 where
+  further : ℕ
+  told : x ≡ OutsideLimits (first + (k + further))
+  there : FirstOutside fields further
+
+met : (first k : ℕ) (fields : List Bool) {x : Refusal} → Refused x ≡ checksOf (limitsFrom first k fields) → Met first k fields x
+unfolding judged
+met first k [] e = absurd (refused-passed e)
+met first k (false ∷ more) {x} e =
+    let same : x ≡ OutsideLimits (first + k) = cc in
+    record { further = 0; told = same ∙ ap OutsideLimits (omega arith); there = record { outside = refl; before = λ j h. absurd (omega arith) } }
+met first k (true ∷ more) {x} e = after (met first (k + 1) more e)
+  where
+    after : Met first (k + 1) more x → Met first k (true ∷ more) x
+    after m =
+        record {
+          further = suc (m .further);
+          told = m .told ∙ ap OutsideLimits (omega arith);
+          there = record { outside = m .there .outside; before = earlier };
+        }
+      where
+        earlier : (j : ℕ) → j < suc (m .further) → getD (true ∷ more) j true ≡ true
+        earlier zero h = refl
+        earlier (suc j) h = m .there .before j (omega arith)
+
+outside-same : {p q : ℕ} → reportOf (OutsideLimits p) ≡ reportOf (OutsideLimits q) → p ≡ q
+outside-same {p} {q} e = let value : Value p ≡ Value q = ap (λ (report : Report). report .1) e in cc
+
+-- so they refuse by 1 alone
+pub record Outside (fields : List Bool) (x : Refusal) : Type 0 where
+  pub place : ℕ
+  pub told : x ≡ OutsideLimits place
+  pub first : FirstOutside fields place
+
+pub refused-outside : (fields : List Bool) {x : Refusal} → Refused x ≡ checksOf (limitTests fields) → Outside fields x
+refused-outside fields e =
+    let m = met 0 0 fields e in
+    record { place = m .further; told = m .told ∙ ap OutsideLimits (omega arith); first = m .there }
+
+pub first-outside : (fields : List Bool) {place : ℕ} → Refused (OutsideLimits place) ≡ checksOf (limitTests fields) → FirstOutside fields place
+first-outside fields e =
+    let o = refused-outside fields e in
+    subst (FirstOutside fields) (sym (outside-same (ap reportOf (o .told)))) (o .first)
+
+true-false : true ≡ false → ⊥
+true-false e = let z : _≡_ {A = ℕ} 0 1 = cc in omega arith
+
+-- and where a field is the first outside, they refuse by its place
+from-refused : (first k : ℕ) (fields : List Bool) (further : ℕ) → FirstOutside fields further
+    → Refused (OutsideLimits (first + (k + further))) ≡ checksOf (limitsFrom first k fields)
+unfolding judged
+from-refused first k [] further o = absurd (true-false (o .outside))
+from-refused first k (false ∷ more) zero o = ap (λ (p : ℕ). Refused (OutsideLimits p)) (omega arith)
+from-refused first k (false ∷ more) (suc j) o = absurd (true-false (sym (o .before 0 (omega arith))))
+from-refused first k (true ∷ more) zero o = absurd (true-false (o .outside))
+from-refused first k (true ∷ more) (suc j) o =
+    ap (λ (p : ℕ). Refused (OutsideLimits p)) (omega arith)
+    ∙ from-refused first (k + 1) more j (record { outside = o .outside; before = λ i h. o .before (suc i) (omega arith) })
+
+pub outside-first : (fields : List Bool) {place : ℕ} → FirstOutside fields place → Refused (OutsideLimits place) ≡ checksOf (limitTests fields)
+outside-first fields {place} o = ap (λ (p : ℕ). Refused (OutsideLimits p)) (omega arith) ∙ from-refused 0 0 fields place o
+
+-- where they pass, every field is inside
+from-inside : (first k : ℕ) (fields : List Bool) → Passed ≡ checksOf (limitsFrom first k fields) → (j : ℕ) → getD fields j true ≡ true
+from-inside first k [] p j = refl
+from-inside first k (inside ∷ more) p zero = shown _ _ p refl .0
+from-inside first k (inside ∷ more) p (suc j) = from-inside first (k + 1) more (shown _ _ p refl .1) j
+
+pub all-inside : (fields : List Bool) → Passed ≡ checksOf (limitTests fields) → (k : ℕ) → getD fields k true ≡ true
+all-inside fields p = from-inside 0 0 fields p
+
+-- ---- the same of an entry, which may have other tests before and after
+
+-- tests that refuse by other numbers
+abbrev pub Others : List Test → Type 0
+Others [] = Unit {0}
+Others (t ∷ more) = (numberOf (t .otherwise) ≡ 1 → ⊥) × Others more
+
+others-refuse : (tests : List Test) → Others tests → {x : Refusal} → Refused x ≡ checksOf tests → numberOf x ≡ 1 → ⊥
+unfolding judged
+others-refuse [] o e one = refused-passed e
+others-refuse (t ∷ more) o {x} e one = by (t .passed) (λ f. others-refuse more (o .1) f one) e
+  where
+    by : (b : Bool) → (Refused x ≡ checksOf more → ⊥) → Refused x ≡ cond b (checksOf more) (Refused (t .otherwise)) → ⊥
+    by true later f = later f
+    by false later f = let same : x ≡ t .otherwise = cc in o .0 (ap numberOf (sym same) ∙ one)
+
+module _ {A : Type 0} {kind : Kind A} {answer r : A} (before : List Test) (fields : List Bool) (after : List Test)
+    (s : Says kind (before ++ (limitTests fields ++ after)) answer r) {place : ℕ} where
+  -- refusal 1 tells the first field outside
+  pub told-outside : Others before → Others after → kind .told r ≡ reportOf (OutsideLimits place) → FirstOutside fields place
+  told-outside b a one = first (checksOf before) refl
+    where
+      number : Report → ℕ
+      number report = report .0
+
+      last : (c : Checked) → c ≡ checksOf after → judged reportOf success after ≡ reportOf (OutsideLimits place) → ⊥
+      last Passed e t = let z : _≡_ {A = ℕ} 0 1 = ap number (judged-passed reportOf success after e ∙ t) in omega arith
+      last (Refused x) e t = others-refuse after a e (ap number (judged-refused reportOf success after e ∙ t))
+
+      then : (c : Checked) → c ≡ checksOf (limitTests fields) → judged reportOf success (limitTests fields ++ after) ≡ reportOf (OutsideLimits place)
+          → FirstOutside fields place
+      then Passed e t = absurd (last (checksOf after) refl (passes reportOf success after (limitTests fields) e ∙ t))
+      then (Refused x) e t =
+          let o = refused-outside fields e in
+          let same = outside-same (ap reportOf (sym (o .told)) ∙ stops reportOf success after (limitTests fields) e ∙ t) in
+          subst (FirstOutside fields) same (o .first)
+
+      first : (c : Checked) → c ≡ checksOf before → FirstOutside fields place
+      first Passed e = then (checksOf (limitTests fields)) refl (passes reportOf success (limitTests fields ++ after) before e ∙ sym (s .number) ∙ one)
+      first (Refused x) e = absurd (others-refuse before b e (ap number (stops reportOf success (limitTests fields ++ after) before e ∙ sym (s .number) ∙ one)))
+
+  -- and where the tests before pass, the first field outside is told
+  pub outside-told : Passed ≡ checksOf before → FirstOutside fields place → kind .told r ≡ reportOf (OutsideLimits place)
+  outside-told p o =
+      s .number
+      ∙ sym (passes reportOf success (limitTests fields ++ after) before p)
+      ∙ sym (stops reportOf success after (limitTests fields) (outside-first fields o))
