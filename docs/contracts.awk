@@ -1,6 +1,7 @@
 # contracts.awk: that each public entry's contract and laws say what the page says that they do, by their form. Prints the faults.
 # A contract is one statement, applied to every parameter at entry, the answer, and what was lent at exit; or an equation of the answer.
-# Its law of one answer, and that of the numbers by which it refuses, are of that same statement, applied to variables alone.
+# Its law of one answer, that of the numbers by which it refuses, and where 1 is one of them that of its place, are of that same statement, applied to
+# variables alone.
 # Such a statement is held as its form: its name, and for each argument `_`, or the constant that it is: `HasText Text.Name _ _`.
 # Reads the imports (file, name, module), functions, laws (file, name, type) and entries that docs/check lists.
 BEGIN {
@@ -8,6 +9,7 @@ BEGIN {
     # by how much is lent to be written: nothing, one, or the records and the room of a search
     split("OneAnswer OneOutcome OneOutcomes", one, " ")
     split("Refuses RefusesWhole RefusesInPart", total, " ")
+    split("TellsFirst TellsFirstBeside TellsFirstBesides", outside, " ")
 }
 FILENAME ~ /imports$/ { module[$1, $2] = $3; next }
 FILENAME ~ /functions$/ { contract[$2] = $4; source[$2] = $5; next }
@@ -28,6 +30,7 @@ function check_entry(entry, stated, numbers,   form, lent, title, place) {
     check_law(entry, "one-" title, one[lents + 1], form)
     if ((form ~ /^r ≡ /) != (numbers == "")) print entry ": a statement has refusals, and an equation has none"
     else if (numbers != "") check_refusals(entry, "total-" title, form, numbers, lent)
+    if (", " numbers "," ~ /, 1,/) check_place(entry, "outside-" title, form)
 }
 
 function name_of(form) {
@@ -152,6 +155,13 @@ function check_refusals(entry, law, form, numbers, lent,   text, said, name, k) 
     }
     check_statement(entry, law, text, form)
     if (lent_at != lent) print entry ": its law " law " is not of what is lent"
+}
+
+# The law of the place has in between what is told, and the fields, which stand on variables of the statement.
+function check_place(entry, law, form,   text) {
+    text = opened(entry, law, outside[lents + 1])
+    sub(/^(\([a-z]+ \.told\)|[a-z]+Told) \([a-z]+Limits( [a-z]+)+\) /, "", text) || sub(/^\([a-z]+ \.told\) \(numberLimits \(numbersOf \(lineIn input\)\)\) /, "", text)
+    if (text != "") check_statement(entry, law, text, form)
 }
 
 # What stands behind the demand in a law's type; empty, and a fault, where the law is none of it.

@@ -14,7 +14,10 @@ use Rattle.action.specs.Known.{actions, actionTest}
 abbrev pub SetIn : ℕ → Type 0
 SetIn s = s < 2 ^ actions
 
--- refusal 1: bit 31 of a set is clear. Document 02, E1: its place is "0 for a set"
+-- refusal 1: bit 31 of a set is clear. Document 02, E1: its place is "0 for a set", which is one field
+abbrev pub setLimits : ℕ → List Bool
+setLimits s = ltb s (2 ^ actions) ∷ []
+
 abbrev pub setTest : ℕ → Test
 setTest s = limitTest 0 (ltb s (2 ^ actions))
 

@@ -4,3 +4,4 @@ pub mod Program
 pub mod Verdicts
 pub mod OneAnswer
 pub mod Total
+pub mod Outside

@@ -3,3 +3,4 @@ pub mod Trees
 pub mod Searches
 pub mod OneAnswer
 pub mod Total
+pub mod Outside

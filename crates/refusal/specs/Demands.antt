@@ -1,5 +1,5 @@
 -- Document 01, "What the statements have to say" and demand 1, of the statement of a public entry: no second answer fits,
--- and it refuses by fixed numbers, with every lent buffer unchanged.
+-- and it refuses by fixed numbers, with every lent buffer unchanged. Document 02, E1: number 1 comes with "the position of the first field outside its limit".
 -- Assumes nothing.
 use mathlib.Core.Path.{_≡_}
 use mathlib.Core.Logic.{_⊎_}
@@ -8,9 +8,11 @@ use mathlib.Core.List.{List, [], _∷_, _++_}
 use Prim.Native.Nat.{ℕ}
 use lib.Dec.{eqb}
 use Rattle.refusal.specs.declared.Refusal.{Refusal}
+use Rattle.refusal.specs.declared.Refusal.the-variants.{OutsideLimits}
 use Rattle.refusal.specs.declared.Report.{Report}
 use Rattle.refusal.specs.Report.{reportOf, success}
 use Rattle.refusal.specs.Judge.{Test, Kind}
+use Rattle.refusal.specs.Limits.{FirstOutside}
 
 -- ---- no second answer fits
 
@@ -69,3 +71,12 @@ Refuses {A} kind numbers statement = (r : A) → statement r → Among numbers (
 abbrev pub RefusesWhole : {A B : Type 0} → Kind A → List ℕ → B → (A → B → Type 0) → Type 0
 RefusesWhole {A} {B} kind numbers lent statement =
     (r : A) (after : B) → statement r after → Among numbers (kind .told r .0) × ((kind .told r .0 ≡ 0 → ⊥) → after ≡ lent)
+
+-- ---- by which place
+
+-- every answer that is told by 1 is told with the place of the first of these fields outside its limit; and beside what is lent
+abbrev pub TellsFirst : {A : Type 0} → (A → Report) → List Bool → (A → Type 0) → Type 0
+TellsFirst {A} told fields statement = (r : A) (place : ℕ) → statement r → told r ≡ reportOf (OutsideLimits place) → FirstOutside fields place
+
+abbrev pub TellsFirstBeside : {A B : Type 0} → (A → Report) → List Bool → (A → B → Type 0) → Type 0
+TellsFirstBeside {A} {B} told fields statement = (after : B) → TellsFirst told fields (λ (r : A). statement r after)

@@ -1,5 +1,5 @@
 pub mod Report
 pub mod Judge
-pub mod Demands
 pub mod Limits
+pub mod Demands
 pub mod laws

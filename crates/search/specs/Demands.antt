@@ -2,13 +2,14 @@
 -- no path written; these are the exceptions to demand 1". Demand 1 and that no second answer fits, of the statement of an entry that lends records and room.
 -- Assumes nothing.
 use mathlib.Core.Path.{_≡_}
+use mathlib.Core.Bool.{Bool}
 use mathlib.Core.List.{List}
 use mathlib.Core.Logic.{_⊎_}
 use Prim.Native.Nat.{ℕ}
 use Rattle.refusal.specs.declared.Report.{Report}
 use Rattle.refusal.specs.declared.Checked.the-variants.{Passed}
 use Rattle.refusal.specs.Judge.{Test, checksOf}
-use Rattle.refusal.specs.Demands.{Among}
+use Rattle.refusal.specs.Demands.{Among, TellsFirst}
 
 -- one answer meets the statement, and one state of the records and of the room at exit
 abbrev pub OneOutcomes : {A B C : Type 0} → (A → B → C → Type 0) → Type 0
@@ -24,3 +25,7 @@ RefusesInPart {A} {B} {C} told numbers late first records room statement =
     × ((told r .0 ≡ 0 → ⊥) → written ≡ room)
     × ((Passed ≡ checksOf first → ⊥) → after ≡ records)
     × (Among late (told r .0) ⊎ (after ≡ records))
+
+-- E1's demand beside both
+abbrev pub TellsFirstBesides : {A B C : Type 0} → (A → Report) → List Bool → (A → B → C → Type 0) → Type 0
+TellsFirstBesides {A} {B} {C} told fields statement = (after : B) (written : C) → TellsFirst told fields (λ (r : A). statement r after written)

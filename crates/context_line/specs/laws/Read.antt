@@ -2,7 +2,7 @@
 -- Assumes nothing.
 use mathlib.Core.Path.{_≡_, refl, sym, ap, subst, _∙_}
 use mathlib.Core.Bool.{Bool, true, false}
-use mathlib.Core.List.{List, map}
+use mathlib.Core.List.{List, [], _∷_, map}
 use Prim.Native.Nat.{ℕ, _≤_}
 use native.Mathlib.Omega.{arith}
 use lib.ListN.{length, getD}
@@ -12,11 +12,13 @@ use Rattle.refusal.specs.declared.Checked.{Checked}
 use Rattle.refusal.specs.declared.Checked.the-variants.{Passed, Refused}
 use Rattle.refusal.specs.Report.{reportOf, success}
 use Rattle.refusal.specs.Judge.{Test, judged, checkedOf, checksOf, Says}
+use Rattle.refusal.specs.Demands.{TellsFirst}
 use Rattle.refusal.specs.laws.Judge.{judged-passed, judged-refused, shown}
+use Rattle.refusal.specs.laws.Limits.{tells-first}
 use Rattle.craft_context.specs.declared.context.CraftContext.{CraftContext}
 use Rattle.craft_context.specs.Limits.{ContextIn}
 use Rattle.context_line.specs.Shape.{fields, lineShaped, numbersOf, lineTest}
-use Rattle.context_line.specs.Fields.{wordMost, byteMost, contextOf, numberTests}
+use Rattle.context_line.specs.Fields.{wordMost, byteMost, contextOf, numberLimits, numberTests}
 use Rattle.context_line.specs.inner.Fields.{wordOf}
 use Rattle.context_line.specs.inner.Line.{readOf}
 use Rattle.context_line.specs.laws.Fields.{passed-taken, numbers-words, passed-words}
@@ -105,3 +107,11 @@ module _ {c : CraftContext} where
 
   pub line-inside : (line : List ℕ) → Says read (lineTests line) (R.Context (contextOf (numbersOf line))) (R.Context c) → ContextIn c
   line-inside line s = let e = read-context s in inside (numbersOf line) (e .0) (line-passed line (e .1) .0)
+
+-- ---- a refusal by 1 tells the first field outside, whatever is wrong with it
+
+pub numbers-first : (values : List ℕ) → TellsFirst (read .told) (numberLimits values) (Says read (numberTests values) (R.Context (contextOf values)))
+numbers-first values = tells-first [] (numberLimits values) [] refl refl
+
+pub line-first : (line : List ℕ) → TellsFirst (read .told) (numberLimits (numbersOf line)) (Says read (lineTests line) (R.Context (contextOf (numbersOf line))))
+line-first line = tells-first (lineTest line ∷ []) (numberLimits (numbersOf line)) [] refl refl

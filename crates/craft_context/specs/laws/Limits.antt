@@ -1,7 +1,8 @@
 -- Laws of the limits.
 -- Assumes nothing.
-use mathlib.Core.Path.{_≡_, sym, _∙_}
+use mathlib.Core.Path.{_≡_, refl, sym, _∙_}
 use mathlib.Core.Bool.{true}
+use mathlib.Core.List.{[]}
 use Prim.Native.Nat.{_≤_, _<_}
 use native.Mathlib.Omega.{arith}
 use borrow.Author.Tests.{le-leb, lt-ltb, leb-true, ltb-true}
@@ -11,9 +12,10 @@ use Rattle.laws.specs.laws.Tests.{true-false, both}
 use Rattle.laws.specs.laws.Raise.{raise}
 use Rattle.refusal.specs.declared.Checked.{Checked}
 use Rattle.refusal.specs.declared.Checked.the-variants.{Passed}
-use Rattle.refusal.specs.Judge.{judged, checksOf}
-use Rattle.refusal.specs.laws.Limits.{all-inside}
-use Rattle.craft_context.specs.Limits.{durable, durabilityMost, contextLimits, contextTests, ContextIn}
+use Rattle.refusal.specs.Judge.{judged, checksOf, checking}
+use Rattle.refusal.specs.Demands.{TellsFirst}
+use Rattle.refusal.specs.laws.Limits.{all-inside, tells-first}
+use Rattle.craft_context.specs.Limits.{durable, durabilityMost, contextLimits, contextTests, ChecksContext, ContextIn}
 use Rattle.craft_context.specs.declared.context.CraftContext.{CraftContext}
 
 -- 1..=97, raised
@@ -51,3 +53,7 @@ context-passes c i =
       le-leb _ _ (i .cpMax),
       lt-ltb _ _ (i .pool),
     )
+
+-- its refusal tells the first field outside
+pub context-first : (c : CraftContext) → TellsFirst (checking .told) (contextLimits c) (ChecksContext c)
+context-first c = tells-first [] (contextLimits c) [] refl refl

@@ -17,7 +17,7 @@ use Rattle.refusal.specs.Demands.{numberOf, Among}
 use Rattle.refusal.specs.Limits.{FirstOutside}
 use Rattle.refusal.specs.laws.Judge.{judged-passed, judged-refused, checks, checks-on-by}
 use Rattle.refusal.specs.laws.Demands.{number-among}
-use Rattle.refusal.specs.laws.Limits.{refused-outside}
+use Rattle.refusal.specs.laws.Limits.{outside-same, refused-outside}
 use Rattle.craft_context.specs.declared.context.CraftContext.{CraftContext}
 use Rattle.craft_context.specs.laws.Limits.{context-passes}
 use Rattle.context_line.specs.declared.fields.Read.the-variants as R
@@ -30,8 +30,8 @@ use Rattle.search.specs.declared.options.SearchOptions.{SearchOptions}
 use Rattle.search.specs.declared.entry.Searched.{Searched}
 use Rattle.search.specs.declared.entry.Searched.the-variants as S
 use Rattle.search.specs.Search.{askedTests, searchedTold, searchedOf, recordsOf, roomOf, Searches}
-use Rattle.search.specs.Demands.{OneOutcomes, RefusesInPart}
-use Rattle.search.specs.laws.Demands.{search-refuses, inside-number}
+use Rattle.search.specs.Demands.{OneOutcomes, RefusesInPart, TellsFirstBesides}
+use Rattle.search.specs.laws.Demands.{search-refuses, inside-not-1}
 use Rattle.crafty_c.specs.declared.searches.CraftyFound.{CraftyFound}
 use Rattle.crafty_c.specs.Searches.{outsideOf, toldOf, foundTold, firstTests, TellsSearched}
 use Rattle.crafty_c.specs.inner.Searches.{FindsIn}
@@ -130,13 +130,6 @@ module _ {values : List ℕ} {o : SearchOptions} {logs : List Float} {draws : Li
 
 -- ---- refusal 1 comes of the numbers alone: its value is the first field outside, and all else is 0
 
-never-1 : {n : ℕ} → Among (21 ∷ 6 ∷ 19 ∷ 20 ∷ []) n → n ≡ 1 → ⊥
-never-1 (inl e) one = omega arith
-never-1 (inr (inl e)) one = omega arith
-never-1 (inr (inr (inl e))) one = omega arith
-never-1 (inr (inr (inr (inl e)))) one = omega arith
-never-1 (inr (inr (inr (inr e)))) one = omega arith
-
 pub outside-zero : (values : List ℕ) (o : SearchOptions) (logs : List Float) (draws : List ℕ) (nodes : List Node) (out : List ℕ)
     {r : CraftyFound} {after : List Node} {written : List ℕ} → TellsSearched values o logs draws nodes out r after written → r .number ≡ 1
     → FirstOutside (numberLimits values) (r .value) × (r ≡ outsideOf (OutsideLimits (r .value)))
@@ -157,5 +150,14 @@ outside-zero values o logs draws nodes out {r} s one = by (checksOf (numberTests
     by Passed e =
         let told : foundTold r ≡ searchedTold (searchedOf c o logs draws nodes out) = s .number ∙ sym (judged-passed reportOf _ (numberTests values) e) in
         let inside = context-passes c (passed-taken values e .inside) in
-        let number = inside-number c o logs draws nodes out (sym inside) (record { number = refl; same = refl; records = refl; room = refl }) in
-        absurd (never-1 number (sym (ap (λ (report : Report). report .0) told) ∙ one))
+        let whole = record { number = refl; same = refl; records = refl; room = refl } in
+        absurd (inside-not-1 c o logs draws nodes out (sym inside) whole (sym (ap (λ (report : Report). report .0) told) ∙ one))
+
+pub found-first : (values : List ℕ) (o : SearchOptions) (logs : List Float) (draws : List ℕ) (nodes : List Node) (out : List ℕ)
+    → TellsFirstBesides foundTold (numberLimits values) (TellsSearched values o logs draws nodes out)
+found-first values o logs draws nodes out after written r place s one =
+    let zero = outside-zero values o logs draws nodes out s (ap (λ (report : Report). report .0) one) in
+    let told : reportOf (OutsideLimits (r .value)) ≡ reportOf (OutsideLimits place) =
+    sym (ap foundTold (zero .1)) ∙ one
+    in
+    subst (FirstOutside (numberLimits values)) (outside-same told) (zero .0)

@@ -5,6 +5,7 @@ use mathlib.Core.Bool.{Bool, true, false, cond}
 use mathlib.Core.List.{List, [], _∷_, _++_}
 use Prim.Native.Nat.{ℕ, zero, suc, _+_, _<_}
 use native.Mathlib.Omega.{arith}
+use lib.Dec.{eqb}
 use lib.ListN.{getD}
 use Rattle.refusal.specs.declared.Refusal.{Refusal}
 use Rattle.refusal.specs.declared.Refusal.the-variants.{OutsideLimits}
@@ -14,7 +15,7 @@ use Rattle.refusal.specs.declared.Checked.{Checked}
 use Rattle.refusal.specs.declared.Checked.the-variants.{Passed, Refused}
 use Rattle.refusal.specs.Report.{reportOf, success}
 use Rattle.refusal.specs.Judge.{Test, judged, checksOf, Kind, Says}
-use Rattle.refusal.specs.Demands.{numberOf}
+use Rattle.refusal.specs.Demands.{numberOf, TellsFirst}
 use Rattle.refusal.specs.Limits.{limitsFrom, limitTests, FirstOutside}
 use Rattle.refusal.specs.laws.Judge.{refused-passed, stops, passes, judged-passed, judged-refused, shown}
 
@@ -46,7 +47,7 @@ met first k (true ∷ more) {x} e = after (met first (k + 1) more e)
         earlier zero h = refl
         earlier (suc j) h = m .there .before j (omega arith)
 
-outside-same : {p q : ℕ} → reportOf (OutsideLimits p) ≡ reportOf (OutsideLimits q) → p ≡ q
+pub outside-same : {p q : ℕ} → reportOf (OutsideLimits p) ≡ reportOf (OutsideLimits q) → p ≡ q
 outside-same {p} {q} e = let value : Value p ≡ Value q = ap (λ (report : Report). report .1) e in cc
 
 -- so they refuse by 1 alone
@@ -60,10 +61,15 @@ refused-outside fields e =
     let m = met 0 0 fields e in
     record { place = m .further; told = m .told ∙ ap OutsideLimits (omega arith); first = m .there }
 
-pub first-outside : (fields : List Bool) {place : ℕ} → Refused (OutsideLimits place) ≡ checksOf (limitTests fields) → FirstOutside fields place
-first-outside fields e =
+-- told by 1, with the place
+pub outside-place : (fields : List Bool) {x : Refusal} {place : ℕ} → Refused x ≡ checksOf (limitTests fields) → reportOf x ≡ reportOf (OutsideLimits place)
+    → FirstOutside fields place
+outside-place fields e told =
     let o = refused-outside fields e in
-    subst (FirstOutside fields) (sym (outside-same (ap reportOf (o .told)))) (o .first)
+    subst (FirstOutside fields) (outside-same (ap reportOf (sym (o .told)) ∙ told)) (o .first)
+
+pub first-outside : (fields : List Bool) {place : ℕ} → Refused (OutsideLimits place) ≡ checksOf (limitTests fields) → FirstOutside fields place
+first-outside fields e = outside-place fields e refl
 
 true-false : true ≡ false → ⊥
 true-false e = let z : _≡_ {A = ℕ} 0 1 = cc in omega arith
@@ -95,24 +101,27 @@ all-inside fields p = from-inside 0 0 fields p
 -- ---- the same of an entry, which may have other tests before and after
 
 -- tests that refuse by other numbers
-abbrev pub Others : List Test → Type 0
-Others [] = Unit {0}
-Others (t ∷ more) = (numberOf (t .otherwise) ≡ 1 → ⊥) × Others more
+abbrev pub byOthers : List Test → Bool
+byOthers [] = true
+byOthers (t ∷ more) = cond (eqb (numberOf (t .otherwise)) 1) false (byOthers more)
 
-others-refuse : (tests : List Test) → Others tests → {x : Refusal} → Refused x ≡ checksOf tests → numberOf x ≡ 1 → ⊥
+others-refuse : (tests : List Test) → byOthers tests ≡ true → {x : Refusal} → Refused x ≡ checksOf tests → numberOf x ≡ 1 → ⊥
 unfolding judged
 others-refuse [] o e one = refused-passed e
-others-refuse (t ∷ more) o {x} e one = by (t .passed) (λ f. others-refuse more (o .1) f one) e
+others-refuse (t ∷ more) o {x} e one = by (t .passed) (eqb (numberOf (t .otherwise)) 1) refl o (λ o f. others-refuse more o f one) e
   where
-    by : (b : Bool) → (Refused x ≡ checksOf more → ⊥) → Refused x ≡ cond b (checksOf more) (Refused (t .otherwise)) → ⊥
-    by true later f = later f
-    by false later f = let same : x ≡ t .otherwise = cc in o .0 (ap numberOf (sym same) ∙ one)
+    by : (b c : Bool) → eqb (numberOf (t .otherwise)) 1 ≡ c → cond c false (byOthers more) ≡ true
+        → (byOthers more ≡ true → Refused x ≡ checksOf more → ⊥) → Refused x ≡ cond b (checksOf more) (Refused (t .otherwise)) → ⊥
+    by b true n o later f = true-false (sym o)
+    by true false n o later f = later o f
+    by false false n o later f =
+        let same : x ≡ t .otherwise = cc in
+        true-false (sym (ap (λ (k : ℕ). eqb k 1) (ap numberOf (sym same) ∙ one)) ∙ n)
 
-module _ {A : Type 0} {kind : Kind A} {answer r : A} (before : List Test) (fields : List Bool) (after : List Test)
-    (s : Says kind (before ++ (limitTests fields ++ after)) answer r) {place : ℕ} where
+module _ {A : Type 0} {kind : Kind A} {answer : A} (before : List Test) (fields : List Bool) (after : List Test) where
   -- refusal 1 tells the first field outside
-  pub told-outside : Others before → Others after → kind .told r ≡ reportOf (OutsideLimits place) → FirstOutside fields place
-  told-outside b a one = first (checksOf before) refl
+  pub tells-first : byOthers before ≡ true → byOthers after ≡ true → TellsFirst (kind .told) fields (Says kind (before ++ (limitTests fields ++ after)) answer)
+  tells-first b a r place s one = first (checksOf before) refl
     where
       number : Report → ℕ
       number report = report .0
@@ -124,18 +133,16 @@ module _ {A : Type 0} {kind : Kind A} {answer r : A} (before : List Test) (field
       then : (c : Checked) → c ≡ checksOf (limitTests fields) → judged reportOf success (limitTests fields ++ after) ≡ reportOf (OutsideLimits place)
           → FirstOutside fields place
       then Passed e t = absurd (last (checksOf after) refl (passes reportOf success after (limitTests fields) e ∙ t))
-      then (Refused x) e t =
-          let o = refused-outside fields e in
-          let same = outside-same (ap reportOf (sym (o .told)) ∙ stops reportOf success after (limitTests fields) e ∙ t) in
-          subst (FirstOutside fields) same (o .first)
+      then (Refused x) e t = outside-place fields e (stops reportOf success after (limitTests fields) e ∙ t)
 
       first : (c : Checked) → c ≡ checksOf before → FirstOutside fields place
       first Passed e = then (checksOf (limitTests fields)) refl (passes reportOf success (limitTests fields ++ after) before e ∙ sym (s .number) ∙ one)
       first (Refused x) e = absurd (others-refuse before b e (ap number (stops reportOf success (limitTests fields ++ after) before e ∙ sym (s .number) ∙ one)))
 
   -- and where the tests before pass, the first field outside is told
-  pub outside-told : Passed ≡ checksOf before → FirstOutside fields place → kind .told r ≡ reportOf (OutsideLimits place)
-  outside-told p o =
+  pub first-told : {r : A} {place : ℕ} → Says kind (before ++ (limitTests fields ++ after)) answer r → Passed ≡ checksOf before → FirstOutside fields place
+      → kind .told r ≡ reportOf (OutsideLimits place)
+  first-told s p o =
       s .number
       ∙ sym (passes reportOf success (limitTests fields ++ after) before p)
       ∙ sym (stops reportOf success after (limitTests fields) (outside-first fields o))

@@ -4,23 +4,29 @@ use mathlib.Core.Path.{_≡_, refl, sym, ap, subst, _∙_}
 use mathlib.Core.List.{List, [], _∷_}
 use mathlib.Core.Logic.{_⊎_, inl, inr}
 use Prim.Native.Nat.{ℕ}
+use native.Mathlib.Omega.{arith}
 use lib.Ieee.{Float}
 use lib.ListN.{length}
 use Rattle.refusal.specs.declared.Refusal.{Refusal}
+use Rattle.refusal.specs.declared.Report.{Report}
+use Rattle.refusal.specs.declared.Checked.{Checked}
 use Rattle.refusal.specs.declared.Checked.the-variants.{Passed, Refused}
-use Rattle.refusal.specs.Judge.{checksOf, roomTest}
+use Rattle.refusal.specs.Judge.{Test, checksOf, roomTest}
 use Rattle.refusal.specs.Demands.{numberOf, Among}
-use Rattle.refusal.specs.laws.Judge.{checks, checks-on-by}
+use Rattle.refusal.specs.Limits.{FirstOutside}
+use Rattle.refusal.specs.laws.Judge.{stops, checks, checks-on-by}
 use Rattle.refusal.specs.laws.Demands.{number-among}
+use Rattle.refusal.specs.laws.Limits.{outside-place}
 use Rattle.craft_context.specs.declared.context.CraftContext.{CraftContext}
-use Rattle.craft_context.specs.Limits.{contextTests}
+use Rattle.craft_context.specs.Limits.{contextLimits, contextTests}
 use Rattle.tree.specs.declared.node.Node.{Node}
 use Rattle.tree.specs.Refusals.{newCount}
 use Rattle.search.specs.declared.options.SearchOptions.{SearchOptions}
 use Rattle.search.specs.declared.entry.Searched.{Searched}
+use Rattle.search.specs.declared.entry.Searched.the-variants as S
 use Rattle.search.specs.Options.{searchTest}
-use Rattle.search.specs.Search.{askedTests, searchedTold, Searches}
-use Rattle.search.specs.Demands.{OneOutcomes, RefusesInPart}
+use Rattle.search.specs.Search.{noProgress, askedTests, searchedTold, Searches}
+use Rattle.search.specs.Demands.{OneOutcomes, RefusesInPart, TellsFirstBesides}
 use Rattle.search.specs.laws.Answer.{Away, Stopped, Whole, ways}
 
 -- the numbers of the first tests, and those of what comes later, are among all
@@ -85,3 +91,28 @@ inside-number c o logs draws nodes out p {r} {after} {written} s = go (ways c o 
     go (inl a) = told (a .answer) (first (inside-first c o logs nodes p (a .failed)))
     go (inr (inl a)) = told (a .answer) (inr (a .late))
     go (inr (inr a)) = told (a .answer) (inr (inr (inr (inr refl))))
+
+never-1 : {n : ℕ} → Among (21 ∷ 6 ∷ 19 ∷ 20 ∷ []) n → n ≡ 1 → ⊥
+never-1 (inl e) one = omega arith
+never-1 (inr (inl e)) one = omega arith
+never-1 (inr (inr (inl e))) one = omega arith
+never-1 (inr (inr (inr (inl e)))) one = omega arith
+never-1 (inr (inr (inr (inr e)))) one = omega arith
+
+pub inside-not-1 : (c : CraftContext) (o : SearchOptions) (logs : List Float) (draws : List ℕ) (nodes : List Node) (out : List ℕ) → Passed ≡ checksOf (contextTests c)
+    → {r : Searched} {after : List Node} {written : List ℕ} → Searches c o logs draws nodes out r after written → searchedTold r .0 ≡ 1 → ⊥
+inside-not-1 c o logs draws nodes out p s one = never-1 (inside-number c o logs draws nodes out p s) one
+
+-- so refusal 1 tells the context's first field outside
+pub search-first : (c : CraftContext) (o : SearchOptions) (logs : List Float) (draws : List ℕ) (nodes : List Node) (out : List ℕ)
+    → TellsFirstBesides searchedTold (contextLimits c) (Searches c o logs draws nodes out)
+search-first c o logs draws nodes out after written r place s one = by (checksOf (contextTests c)) refl
+  where
+    rest : List Test
+    rest = searchTest logs o (c .«step_max») ∷ roomTest (length nodes) newCount ∷ []
+
+    by : (k : Checked) → k ≡ checksOf (contextTests c) → FirstOutside (contextLimits c) place
+    by Passed e = absurd (inside-not-1 c o logs draws nodes out e s (ap (λ (report : Report). report .0) one))
+    by (Refused x) e =
+        outside-place (contextLimits c) e
+        (ap searchedTold (stops (λ y. S.Refused y noProgress) _ rest (contextTests c) e) ∙ sym (s .number) ∙ one)
