@@ -154,7 +154,7 @@ fn names_the_first_field_outside() {
     assert_eq!(field_outside(&broken), Some("durability_max"));
 }
 
-/// Names and places are those of the record, and of the header for C.
+/// Names and places are those of the record, of the header for C, and of the page for editors.
 #[test]
 fn names_every_field() {
     let record = format!("{:?}", bench()).replace("Context { ", "");
@@ -164,6 +164,11 @@ fn names_every_field() {
     let places = header.filter_map(|line| line.trim().strip_prefix("CRAFTY_AT_"));
     let named = places.map(|place| place.split(',').next().unwrap().to_lowercase());
     assert!(named.eq(Context::FIELDS));
+    let page = include_str!("../../../docs/REFUSALS.md");
+    for (place, name) in Context::FIELDS.into_iter().enumerate() {
+        let built = place + 22;
+        assert!(page.contains(&format!("\n| {place} | {built} | `{name}` |")), "{name}");
+    }
 }
 
 /// The text of a context's fields is the line that the program reads.
