@@ -68,8 +68,8 @@ fn line_with(numbers: &[(usize, u64)]) -> String {
 fn tells_the_first_field_outside() {
     for (place, most) in MOST.into_iter().enumerate() {
         assert!(replay_text(line_with(&[(place, most)]).as_bytes()).is_ok(), "{place}");
-        for later in place..15 {
-            let line = line_with(&[(later, MOST[later] + 1), (place, most + 1)]);
+        for (later, later_most) in MOST.into_iter().enumerate().skip(place) {
+            let line = line_with(&[(later, later_most + 1), (place, most + 1)]);
             assert_eq!(replay_text(line.as_bytes()), Err(Refusal::OutsideLimits { place }));
         }
     }
