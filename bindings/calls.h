@@ -8,15 +8,13 @@ enum function {
     SEARCH
 };
 
-enum { FIELDS = 15 };
-
 /* Of a tree the input is its records, which may be written: they come back before the room, after a third number, the
  * last node. Its other numbers stand at these places of the context; NODE is also a parent or a start, SCORE is bits. */
 enum { COUNT, NODE, TARGET, ACTION, SCORE, UNUSED };
 
 /* Only REPLAY has a mode, and it, the trees and the search a context. The lengths are in bytes. */
 struct call {
-    uint64_t function, strict, context[FIELDS], input, room;
+    uint64_t function, strict, context[CRAFTY_FIELDS], input, room;
 };
 
 /* Of a search, what comes directly after the call: its options, floats by their bits, and the lengths of the logarithms

@@ -29,8 +29,8 @@ extern "C" {
 #endif
 
 /* The answer of every function. `number` is 0 for success, or that of a refusal. `value` of a success is said at each
- * function; with CRAFTY_UNKNOWN_ACTION, CRAFTY_UNKNOWN_WORD and CRAFTY_NO_ROOM it is what also comes back, and with
- * every other refusal 0. */
+ * function; with CRAFTY_OUTSIDE_LIMITS, CRAFTY_UNKNOWN_ACTION, CRAFTY_UNKNOWN_WORD and CRAFTY_NO_ROOM it is what also
+ * comes back, and with every other refusal 0. */
 typedef struct crafty_answer {
     uint32_t number;
     size_t value;
@@ -40,7 +40,8 @@ typedef struct crafty_answer {
  * comes last; the order of crafty_search is said there. */
 enum {
     CRAFTY_SUCCESS = 0,
-    CRAFTY_OUTSIDE_LIMITS = 1, /* a number of the context is outside its limit or does not fit its field; a set has bit 31 */
+    CRAFTY_OUTSIDE_LIMITS = 1, /* a number of the context is outside its limit or does not fit its field; value: the first
+                                * such field's place, as below. Or a set has bit 31; value: 0 */
     CRAFTY_UNKNOWN_ACTION = 3, /* an action's number is above 30; value: the first such place in the list, from 0 */
     CRAFTY_UNKNOWN_WORD = 5,   /* a word is no action's name; value: the byte where the first such word starts */
     CRAFTY_NO_ROOM = 6,        /* what was lent is too short; value: how many bytes, numbers or records are needed */
@@ -54,6 +55,28 @@ enum {
     CRAFTY_NO_DRAW = 19,       /* a draw is wanted, and none is left */
     CRAFTY_DRAW_TOO_HIGH = 20, /* a draw is not below the number of moves that it is to pick from */
     CRAFTY_BAD_SEARCH = 21     /* an option of a search or a logarithm is outside its limits, or step_max is 0 */
+};
+
+/* The places of a context's fields, from 0, in the order in which a line and the functions take them: with
+ * CRAFTY_OUTSIDE_LIMITS, which box to correct. docs/REFUSALS.md has the limits, and a name for each box. The levels take
+ * any uint32_t: only in a line can they be outside. */
+enum {
+    CRAFTY_AT_PLAYER_JOB_LEVEL,
+    CRAFTY_AT_RECIPE_JOB_LEVEL,
+    CRAFTY_AT_BASE_PROGRESS_FACTOR,
+    CRAFTY_AT_BASE_QUALITY_FACTOR,
+    CRAFTY_AT_STEP_MAX,
+    CRAFTY_AT_PROGRESS_TARGET,
+    CRAFTY_AT_STARTING_QUALITY,
+    CRAFTY_AT_QUALITY_TARGET,
+    CRAFTY_AT_DURABILITY_MAX,
+    CRAFTY_AT_CP_MAX,
+    CRAFTY_AT_IS_EXPERT,
+    CRAFTY_AT_ACTION_POOL, /* of a context: a set alone has 0 */
+    CRAFTY_AT_PLAYER_IS_SPECIALIST,
+    CRAFTY_AT_USE_MANIPULATION,
+    CRAFTY_AT_USE_DELINEATION,
+    CRAFTY_FIELDS          /* how many there are: 15 */
 };
 
 /* How a replay ended. */
@@ -94,7 +117,7 @@ enum {
 
 /* Replays a list of actions, one byte to an action, from the start of a craft, in plain or in strict mode. The context
  * is its fifteen fields; the four flags are 0 or 1. Writes CRAFTY_NUMBERS numbers. Value: CRAFTY_NUMBERS.
- * Refused by 1, 3 (also past the place where the replay would stop), 6. */
+ * Refused by 1 (the place of the first field outside), 3 (also past where the replay would stop), 6. */
 crafty_answer crafty_replay(
     uint32_t player_job_level,
     uint32_t recipe_job_level,
@@ -117,11 +140,12 @@ crafty_answer crafty_replay(
 
 /* Replays the input of the program `replay`: a line of the fifteen fields, 1 to 10 digits each, and then a list as
  * text; in plain mode. Writes the state's line at the start and after each executed action, and the line of the
- * result. Value: the bytes written. Refused by 13, 12, 1, 5 (the offset counts from the start of the input), 6. */
+ * result. Value: the bytes written. Refused by 13, 12, 1 (the place of the first field outside), 5 (the offset counts
+ * from the start of the input), 6. */
 crafty_answer crafty_replay_text(const uint8_t *input, size_t input_length, uint8_t *out, size_t out_length);
 
-/* Writes what the program `replay` prints for an input: the same text, or `refused N` and a line feed. Value: the bytes
- * written. Refused by 6. */
+/* Writes what the program `replay` prints for an input: the same text, or `refused N` and a line feed, without the value
+ * of a refusal. Value: the bytes written. Refused by 6. */
 crafty_answer crafty_print(const uint8_t *input, size_t input_length, uint8_t *out, size_t out_length);
 
 /* Writes the actions that a text names, one byte to an action: words parted by bytes 9, 10, 13 and 32. Value: how many.
@@ -162,12 +186,12 @@ typedef struct crafty_solution {
 } crafty_solution;
 
 /* A new tree: writes record 0, with no visit and these unused moves. Value: the count, 1. Refused by 1 (the unused
- * moves), 6 (1 record is needed). */
+ * moves; value 0), 6 (1 record is needed). */
 crafty_answer crafty_tree_new(crafty_node *nodes, size_t nodes_length, uint32_t unused);
 
 /* Writes a new record, number `count`, with no visit and these unused moves, below a parent, whose record stays as it
- * is. Value: its number; the count is then one more. Refused by 1 (the unused moves), 3 (value 0), 7, 8 (the parent),
- * 6 (count + 1 records are needed). */
+ * is. Value: its number; the count is then one more. Refused by 1 (the unused moves; value 0), 3 (value 0), 7, 8
+ * (the parent), 6 (count + 1 records are needed). */
 crafty_answer crafty_tree_insert(
     crafty_node *nodes, size_t nodes_length, size_t count, size_t parent, uint8_t action, uint32_t unused);
 
@@ -210,7 +234,7 @@ typedef struct crafty_state {
 typedef struct crafty_found {
     uint32_t number;     /* 0 for success, or that of a refusal */
     uint32_t iterations; /* how many were done */
-    size_t value;        /* with CRAFTY_NO_ROOM what is needed, and else 0 */
+    size_t value;        /* with CRAFTY_NO_ROOM what is needed, with CRAFTY_OUTSIDE_LIMITS the place, and else 0 */
     size_t records;      /* how many the tree has after them: its count */
     size_t draws;        /* how many they used, from the first on */
     size_t path;         /* how many actions were written; of a refusal 0 */
@@ -233,10 +257,10 @@ typedef struct crafty_found {
  *   max_score_weighting_constant   what a record's greatest score counts beside its average, from 0 to 1; usually 0.1
  *   exploration_constant           from 0 to 16; usually 1.5
  * step_max is at least 1. Minus zero counts as 0.
- * Refused by 1, 21 and 6 (1 record is needed), which write nothing. Then an iteration is refused by 19, 20, and 6 where
- * the records don't suffice for all that it stores (the count that would do is needed): it stores nothing and its draws
- * are not used, but those before it stand. Last by 6 where the path has no room (its length is needed): all iterations
- * stand. A refusal writes no path. */
+ * Refused by 1 (the place of the first field outside), 21 and 6 (1 record is needed), which write nothing. Then an
+ * iteration is refused by 19, 20, and 6 where the records don't suffice for all that it stores (the count that would do
+ * is needed): it stores nothing and its draws are not used, but those before it stand. Last by 6 where the path has no
+ * room (its length is needed): all iterations stand. A refusal writes no path. */
 crafty_found crafty_search(
     crafty_node *nodes, size_t nodes_length,
     const float *logs, size_t logs_length,

@@ -1,6 +1,7 @@
 /* Checks of each function of include/crafty.h: an answer, each refusal, and what the room or the records hold then. */
 #include "../../include/crafty.h"
 
+#include <inttypes.h>
 #include <math.h>
 #include <stdio.h>
 #include <string.h>
@@ -57,6 +58,72 @@ static void check_lists(void)
     expect_text(crafty_macro_time(list, 3), CRAFTY_UNKNOWN_ACTION, 2, "", "refusal 3 of a list timed");
 }
 
+/* ---- contexts, by the places of their fields. A line can say more than a field can hold. */
+
+/* A set of every move, and one with bit 31. */
+#define ALL_MOVES UINT32_C(0x7FFFFFFF)
+#define NO_SET UINT32_C(0x80000000)
+
+struct context {
+    uint64_t at[CRAFTY_FIELDS];
+};
+
+#define CRAFT { { 50, 50, 100, 100, 8, 200, 0, 0, 40, 100, 0, 33, 0, 0, 0 } }
+
+static const struct context craft = CRAFT;
+
+/* The most that each field takes, and what is said where a check of it fails. */
+static const struct limit {
+    uint64_t most;
+    const char *what;
+} limits[CRAFTY_FIELDS] = {
+    [CRAFTY_AT_PLAYER_JOB_LEVEL] = { UINT32_MAX, "the place of player_job_level" },
+    [CRAFTY_AT_RECIPE_JOB_LEVEL] = { UINT32_MAX, "the place of recipe_job_level" },
+    [CRAFTY_AT_BASE_PROGRESS_FACTOR] = { 200070, "the place of base_progress_factor" },
+    [CRAFTY_AT_BASE_QUALITY_FACTOR] = { 200070, "the place of base_quality_factor" },
+    [CRAFTY_AT_STEP_MAX] = { 255, "the place of step_max" },
+    [CRAFTY_AT_PROGRESS_TARGET] = { 1000000, "the place of progress_target" },
+    [CRAFTY_AT_STARTING_QUALITY] = { 1000000, "the place of starting_quality" },
+    [CRAFTY_AT_QUALITY_TARGET] = { 1000000, "the place of quality_target" },
+    [CRAFTY_AT_DURABILITY_MAX] = { 97, "the place of durability_max" },
+    [CRAFTY_AT_CP_MAX] = { 1000000, "the place of cp_max" },
+    [CRAFTY_AT_IS_EXPERT] = { 1, "the place of is_expert" },
+    [CRAFTY_AT_ACTION_POOL] = { ALL_MOVES, "the place of action_pool" },
+    [CRAFTY_AT_PLAYER_IS_SPECIALIST] = { 1, "the place of player_is_specialist" },
+    [CRAFTY_AT_USE_MANIPULATION] = { 1, "the place of use_manipulation" },
+    [CRAFTY_AT_USE_DELINEATION] = { 1, "the place of use_delineation" },
+};
+
+/* `ask` answers for a context. */
+static void expect_place(crafty_answer (*ask)(const struct context *), const struct context *c, size_t place)
+{
+    crafty_answer answer = ask(c);
+    expect(answer.number == CRAFTY_OUTSIDE_LIMITS && answer.value == place, limits[place].what);
+}
+
+/* Of each field from `first` on: the most is taken, one more is refused, and its place told whichever later field is
+ * outside too. */
+static void expect_places(crafty_answer (*ask)(const struct context *), size_t first)
+{
+    for (size_t i = first; i < CRAFTY_FIELDS; i++) {
+        struct context c = craft;
+        c.at[i] = limits[i].most;
+        expect(ask(&c).number == CRAFTY_SUCCESS, limits[i].what);
+        c.at[i]++;
+        expect_place(ask, &c, i);
+        for (size_t j = i + 1; j < CRAFTY_FIELDS; j++) {
+            struct context both = c;
+            both.at[j] = limits[j].most + 1;
+            expect_place(ask, &both, i);
+        }
+    }
+    struct context broken = craft;
+    broken.at[CRAFTY_AT_DURABILITY_MAX] = 0;
+    expect_place(ask, &broken, CRAFTY_AT_DURABILITY_MAX);
+}
+
+/* ---- texts. */
+
 static const char input[] =
     "50 50 100 100 8 200 0 0 40 100 0 33 0 0 0\n"
     "Veneration BasicSynthesis BasicSynthesis\n";
@@ -67,6 +134,18 @@ static const char output[] =
     "  150/  200 progress |     0/    0 quality | 30/40 durability |  82/100 cp\n"
     "  300/  200 progress |     0/    0 quality | 20/40 durability |  82/100 cp\n"
     "finished 3F000000 executed 3 of 3\n";
+
+/* Of a context's line alone, with no list. */
+static crafty_answer replay_line(const struct context *c)
+{
+    char line[12 * CRAFTY_FIELDS];
+    size_t length = 0;
+    for (size_t i = 0; i < CRAFTY_FIELDS; i++)
+        length += sprintf(line + length, "%" PRIu64 "%c", c->at[i], i + 1 < CRAFTY_FIELDS ? ' ' : '\n');
+    crafty_answer answer = crafty_replay_text(bytes(line), length, room, ROOM);
+    fill();
+    return answer;
+}
 
 static void check_texts(void)
 {
@@ -80,21 +159,36 @@ static void check_texts(void)
     expect_text(crafty_replay_text(long_text, 65537, room, ROOM), CRAFTY_TOO_LONG, 0, "", "refusal 13 of a text");
     expect_text(crafty_replay_text(long_text, 65536, room, ROOM), CRAFTY_MALFORMED_LINE, 0, "", "refusal 12 of the longest text");
     expect_text(crafty_replay_text(bytes(input), 41, room, ROOM), CRAFTY_MALFORMED_LINE, 0, "", "refusal 12");
-    expect_text(crafty_replay_text(bytes(outside), strlen(outside), room, ROOM), CRAFTY_OUTSIDE_LIMITS, 0, "", "refusal 1 of a text");
+    expect_text(crafty_replay_text(bytes(outside), strlen(outside), room, ROOM), CRAFTY_OUTSIDE_LIMITS, 4, "", "refusal 1 of a text");
+    expect_places(replay_line, CRAFTY_AT_PLAYER_JOB_LEVEL);
     expect_text(crafty_replay_text(bytes(input), 45, room, ROOM), CRAFTY_UNKNOWN_WORD, 42, "", "refusal 5 of a text");
     expect_text(crafty_print(bytes(input), strlen(input), room, ROOM), CRAFTY_SUCCESS, size, output, "a text is printed");
     expect_text(crafty_print(bytes(input), 41, room, 11), CRAFTY_SUCCESS, 11, refused, "a refusal is printed");
     expect_text(crafty_print(bytes(input), 41, room, 10), CRAFTY_NO_ROOM, 11, "", "refusal 6 of a refusal printed");
+    expect_text(crafty_print(bytes(outside), strlen(outside), room, ROOM), CRAFTY_SUCCESS, 10, "refused 1\n", "no place is printed");
 }
 
-static crafty_answer replay_in(bool strict, uint32_t step_max, const uint8_t *list, size_t length, uint32_t *out, size_t numbers)
+/* ---- replays. */
+
+static crafty_answer replay_in(
+    const struct context *c, bool strict, const uint8_t *list, size_t length, uint32_t *out, size_t numbers)
 {
-    return crafty_replay(50, 50, 100, 100, step_max, 200, 0, 0, 40, 100, 0, 33, 0, 0, 0, strict, list, length, out, numbers);
+    const uint64_t *f = c->at;
+    return crafty_replay(
+        f[0], f[1], f[2], f[3], f[4], f[5], f[6], f[7], f[8], f[9], f[10], f[11], f[12], f[13], f[14],
+        strict, list, length, out, numbers);
 }
 
-static crafty_answer replay(uint32_t step_max, const uint8_t *list, size_t length, uint32_t *out, size_t numbers)
+static crafty_answer replay(const uint8_t *list, size_t length, uint32_t *out, size_t numbers)
 {
-    return replay_in(false, step_max, list, length, out, numbers);
+    return replay_in(&craft, false, list, length, out, numbers);
+}
+
+/* Of no action. */
+static crafty_answer replay_start(const struct context *c)
+{
+    uint32_t out[CRAFTY_NUMBERS];
+    return replay_in(c, false, NULL, 0, out, CRAFTY_NUMBERS);
 }
 
 static void check_replays(void)
@@ -103,37 +197,35 @@ static void check_replays(void)
     static const uint8_t unknown[] = { 5, 31 };
     static const uint8_t again[] = { 5, 5 };
     static const uint32_t finished[CRAFTY_NUMBERS] = { CRAFTY_FINISHED, 0x3F000000, 3, 0, 4, 300, 0, 20, 82, 0, 0, 0, 0, 0, 0, 0, 0, 0, 2, 0, 0 };
+    struct context outside = craft;
+    outside.at[CRAFTY_AT_STEP_MAX] = 256;
     uint32_t out[CRAFTY_NUMBERS + 1];
     uint32_t before[CRAFTY_NUMBERS + 1];
     memset(out, UNTOUCHED, sizeof out);
     memcpy(before, out, sizeof out);
 
-    crafty_answer answer = replay(256, list, 3, out, CRAFTY_NUMBERS);
-    expect(answer.number == CRAFTY_OUTSIDE_LIMITS && answer.value == 0, "refusal 1 of a number that does not fit");
-    answer = replay(8, unknown, 2, out, CRAFTY_NUMBERS);
+    crafty_answer answer = replay_in(&outside, false, unknown, 2, out, CRAFTY_NUMBERS);
+    expect(answer.number == CRAFTY_OUTSIDE_LIMITS && answer.value == 4, "refusal 1 of a number that does not fit");
+    answer = replay(unknown, 2, out, CRAFTY_NUMBERS);
     expect(answer.number == CRAFTY_UNKNOWN_ACTION && answer.value == 1, "refusal 3 of a replay");
-    answer = replay(8, list, 3, out, CRAFTY_NUMBERS - 1);
+    answer = replay(list, 3, out, CRAFTY_NUMBERS - 1);
     expect(answer.number == CRAFTY_NO_ROOM && answer.value == CRAFTY_NUMBERS, "refusal 6 of a replay");
     expect(memcmp(out, before, sizeof out) == 0, "a refusal leaves the numbers as they were");
-    answer = replay(8, list, 3, out, CRAFTY_NUMBERS + 1);
+    answer = replay(list, 3, out, CRAFTY_NUMBERS + 1);
     expect(answer.number == CRAFTY_SUCCESS && answer.value == CRAFTY_NUMBERS, "a list is replayed");
     expect(memcmp(out, finished, sizeof finished) == 0, "the numbers of a replay");
     expect(out[CRAFTY_NUMBERS] == before[CRAFTY_NUMBERS], "no number further");
 
     /* a second Veneration under the first is legal in plain mode alone */
-    replay(8, again, 2, out, CRAFTY_NUMBERS);
+    replay(again, 2, out, CRAFTY_NUMBERS);
     expect(out[0] == CRAFTY_CONTINUING && out[2] == 2, "a plain replay");
-    replay_in(true, 8, again, 2, out, CRAFTY_NUMBERS);
+    replay_in(&craft, true, again, 2, out, CRAFTY_NUMBERS);
     expect(out[0] == CRAFTY_INVALID_ACTION_FAILURE && out[2] == 1, "a strict replay");
 }
 
 /* ---- trees. Records 1 and 2 are below record 0, record 3 is below 1, and record 4 is not used. */
 
 enum { COUNT = 4, RECORDS = 5 };
-
-/* A set of every move, and one with bit 31. */
-#define ALL_MOVES UINT32_C(0x7FFFFFFF)
-#define NO_SET UINT32_C(0x80000000)
 
 static crafty_node nodes[RECORDS];
 static crafty_node before[RECORDS];
@@ -369,12 +461,13 @@ enum { ITERATIONS = 3, GROWN = 8, SPARE = 9, DRAWN = 7, PATH = 2, LOGS = 4096 };
 
 /* What a search is asked, but for what is lent to be written. */
 struct asked {
-    uint32_t step_max, iterations;
+    struct context context;
+    uint32_t iterations;
     float threshold, weighting, exploration;
     size_t logs, draws, records, room;
 };
 
-static const struct asked usual = { 8, ITERATIONS, 0, 0.1f, 1.5f, LOGS, DRAWN, GROWN, PATH };
+static const struct asked usual = { CRAFT, ITERATIONS, 0, 0.1f, 1.5f, LOGS, DRAWN, GROWN, PATH };
 
 static float logs[LOGS + 1];
 static uint8_t draws[DRAWN];
@@ -388,9 +481,10 @@ static void clear_tree(void)
 
 static crafty_found search(struct asked a)
 {
+    const uint64_t *f = a.context.at;
     return crafty_search(
         tree, a.records, logs, a.logs, draws, a.draws, room, a.room,
-        50, 50, 100, 100, a.step_max, 200, 0, 0, 40, 100, 0, 33, 0, 0, 0,
+        f[0], f[1], f[2], f[3], f[4], f[5], f[6], f[7], f[8], f[9], f[10], f[11], f[12], f[13], f[14],
         a.iterations, a.threshold, a.weighting, a.exploration);
 }
 
@@ -457,7 +551,7 @@ static struct asked with_logs(size_t length) { struct asked a = usual; a.logs = 
 static struct asked with_draws(size_t length) { struct asked a = usual; a.draws = length; return a; }
 static struct asked with_records(size_t length) { struct asked a = usual; a.records = length; return a; }
 static struct asked with_room(size_t length) { struct asked a = usual; a.room = length; return a; }
-static struct asked with_steps(uint32_t step_max) { struct asked a = usual; a.step_max = step_max; return a; }
+static struct asked with_steps(uint32_t step_max) { struct asked a = usual; a.context.at[CRAFTY_AT_STEP_MAX] = step_max; return a; }
 static struct asked with_iterations(uint32_t iterations) { struct asked a = usual; a.iterations = iterations; return a; }
 static struct asked with_threshold(float threshold) { struct asked a = usual; a.threshold = threshold; return a; }
 static struct asked with_weighting(float weighting) { struct asked a = usual; a.weighting = weighting; return a; }
@@ -489,13 +583,24 @@ static void check_iterations(void)
     expect_stopped(with_room(1), CRAFTY_NO_ROOM, 2, 3, "refusal 6 of the path");
 }
 
+/* Of no iteration, which needs no draw. */
+static crafty_answer search_start(const struct context *c)
+{
+    struct asked a = with_iterations(0);
+    a.context = *c;
+    crafty_found said = search(a);
+    clear_tree();
+    return (crafty_answer){ said.number, said.value };
+}
+
 static void check_options(void)
 {
     static const crafty_found none = { CRAFTY_SUCCESS, 0, 0, 1, 0, 0, 0, { 1, 0, 0, 40, 100, 0, 0, 0, 0, 0, 0, 0, 0, 0, 0, 0, 31 } };
     expect_found(search(with_iterations(0)), &none, "a search of no iteration");
     expect_tree(0, 1, "the tree of no iteration");
     expect_refused(with_records(0), CRAFTY_NO_ROOM, 1, "refusal 6 of record 0");
-    expect_refused(with_steps(256), CRAFTY_OUTSIDE_LIMITS, 0, "refusal 1 of a search");
+    expect_refused(with_steps(256), CRAFTY_OUTSIDE_LIMITS, 4, "refusal 1 of a search");
+    expect_places(search_start, CRAFTY_AT_BASE_PROGRESS_FACTOR);
     expect_refused(with_steps(0), CRAFTY_BAD_SEARCH, 0, "refusal 21 of step_max");
     expect_refused(with_iterations(4097), CRAFTY_BAD_SEARCH, 0, "refusal 21 of iterations");
     expect_refused(with_threshold(NAN), CRAFTY_BAD_SEARCH, 0, "refusal 21 of a threshold");
@@ -514,8 +619,8 @@ static void check_options(void)
     struct asked wrong = with_iterations(4097);
     wrong.records = 0;
     expect_refused(wrong, CRAFTY_BAD_SEARCH, 0, "refusal 21 before 6");
-    wrong.step_max = 256;
-    expect_refused(wrong, CRAFTY_OUTSIDE_LIMITS, 0, "refusal 1 before 21");
+    wrong.context.at[CRAFTY_AT_STEP_MAX] = 256;
+    expect_refused(wrong, CRAFTY_OUTSIDE_LIMITS, 4, "refusal 1 before 21");
 }
 
 static void check_logarithms(void)
@@ -550,6 +655,7 @@ int main(void)
     check_lists();
     check_texts();
     check_replays();
+    expect_places(replay_start, CRAFTY_AT_BASE_PROGRESS_FACTOR);
     check_trees();
     check_searches();
     return failed;

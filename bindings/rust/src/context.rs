@@ -29,6 +29,25 @@ pub enum Mode {
 }
 
 impl Context {
+    /// The names of the fields, by their places. A page that is refused by 1 tells the player which box it was.
+    pub const FIELDS: [&'static str; 15] = [
+        "player_job_level",
+        "recipe_job_level",
+        "base_progress_factor",
+        "base_quality_factor",
+        "step_max",
+        "progress_target",
+        "starting_quality",
+        "quality_target",
+        "durability_max",
+        "cp_max",
+        "is_expert",
+        "action_pool",
+        "player_is_specialist",
+        "use_manipulation",
+        "use_delineation",
+    ];
+
     /// In their order, as the first line of the program `replay` has them.
     pub fn fields(&self) -> [u32; 15] {
         [

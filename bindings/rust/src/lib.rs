@@ -33,7 +33,7 @@ pub fn replay_text(input: &[u8]) -> Result<String, Refusal> {
     written(|room| lent::replay_text(input, room)).map(text)
 }
 
-/// What the program `replay` prints for an input, refused or not.
+/// What the program `replay` prints for an input, refused or not; of a refusal the number alone.
 pub fn print(input: &[u8]) -> String {
     text(written(|room| lent::print(input, room)).expect("room is all that can be lacking"))
 }

@@ -5,8 +5,9 @@ use std::fmt;
 
 #[derive(Clone, Copy, Debug, PartialEq, Eq)]
 pub enum Refusal {
-    /// A number of the context is outside its limit, or a set has bit 31.
-    OutsideLimits,
+    /// A number of the context is outside its limit, or a set has bit 31: the place of the first such field, named by
+    /// [`Context::FIELDS`](crate::Context::FIELDS), and 0 for a set.
+    OutsideLimits { place: usize },
     /// An action's number is above 30: its first place in the list, 0 for a single one.
     UnknownAction { place: usize },
     /// A word is no action's name: the byte where the first such word starts.
@@ -40,7 +41,7 @@ impl Refusal {
     pub(crate) fn of_number(number: u32, value: usize) -> Option<Refusal> {
         match number {
             0 => None,
-            1 => Some(Refusal::OutsideLimits),
+            1 => Some(Refusal::OutsideLimits { place: value }),
             3 => Some(Refusal::UnknownAction { place: value }),
             5 => Some(Refusal::UnknownWord { offset: value }),
             6 => Some(Refusal::NoRoom { needed: value }),
@@ -61,7 +62,7 @@ impl Refusal {
     /// The number that the portal's pages know it by.
     pub fn number(self) -> u8 {
         match self {
-            Refusal::OutsideLimits => 1,
+            Refusal::OutsideLimits { .. } => 1,
             Refusal::UnknownAction { .. } => 3,
             Refusal::UnknownWord { .. } => 5,
             Refusal::NoRoom { .. } => 6,
@@ -82,8 +83,8 @@ impl Refusal {
 impl fmt::Display for Refusal {
     fn fmt(&self, out: &mut fmt::Formatter) -> fmt::Result {
         match self {
-            Refusal::OutsideLimits => {
-                write!(out, "a number of the context or a set is outside its limit")
+            Refusal::OutsideLimits { place } => {
+                write!(out, "the number at place {place} is outside its limit")
             }
             Refusal::UnknownAction { place } => {
                 write!(out, "no action has the number at place {place}")

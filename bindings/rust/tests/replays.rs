@@ -12,6 +12,20 @@ const GROUNDWORK: u8 = 19;
 const QUICK_INNOVATION: u8 = 28;
 const TRAINED_PERFECTION: u8 = 30;
 
+/// A field that has a limit, the most that it takes, and how it is set.
+type Limited = (&'static str, u32, fn(&mut Context, u32));
+
+const LIMITED: [Limited; 8] = [
+    ("base_progress_factor", 200_070, |context, number| context.base_progress_factor = number),
+    ("base_quality_factor", 200_070, |context, number| context.base_quality_factor = number),
+    ("progress_target", 1_000_000, |context, number| context.progress_target = number),
+    ("starting_quality", 1_000_000, |context, number| context.starting_quality = number),
+    ("quality_target", 1_000_000, |context, number| context.quality_target = number),
+    ("durability_max", 97, |context, number| context.durability_max = number as u8),
+    ("cp_max", 1_000_000, |context, number| context.cp_max = number),
+    ("action_pool", (1 << 31) - 1, |context, number| context.action_pool = number),
+];
+
 fn bench() -> Context {
     Context {
         player_job_level: 50,
@@ -107,11 +121,54 @@ fn perfects_once() {
 #[test]
 fn refuses() {
     let outside = Context { durability_max: 98, ..bench() };
-    assert_eq!(replay(&outside, Mode::Plain, &[31]), Err(Refusal::OutsideLimits));
-    let wide = Context { action_pool: 1 << 31, ..bench() };
-    assert_eq!(replay(&wide, Mode::Plain, &[]), Err(Refusal::OutsideLimits));
+    let refusal = replay(&outside, Mode::Plain, &[31]).unwrap_err();
+    assert_eq!((refusal, refusal.number()), (Refusal::OutsideLimits { place: 8 }, 1));
+    assert_eq!(refusal.to_string(), "the number at place 8 is outside its limit");
     let unknown = Refusal::UnknownAction { place: 1 };
     assert_eq!(replay(&bench(), Mode::Plain, &[0, 31, 255]), Err(unknown));
+}
+
+/// The name of the field for which a context is refused by 1.
+fn field_outside(context: &Context) -> Option<&'static str> {
+    match replay(context, Mode::Plain, &[]) {
+        Err(Refusal::OutsideLimits { place }) => Some(Context::FIELDS[place]),
+        _ => None,
+    }
+}
+
+#[test]
+fn names_the_first_field_outside() {
+    for (at, (name, most, set)) in LIMITED.into_iter().enumerate() {
+        let mut context = bench();
+        set(&mut context, most);
+        assert_eq!(field_outside(&context), None, "{name}");
+        set(&mut context, most + 1);
+        assert_eq!(field_outside(&context), Some(name));
+        for (_, later_most, set_later) in &LIMITED[at + 1..] {
+            let mut both = context;
+            set_later(&mut both, later_most + 1);
+            assert_eq!(field_outside(&both), Some(name));
+        }
+    }
+    let broken = Context { durability_max: 0, ..bench() };
+    assert_eq!(field_outside(&broken), Some("durability_max"));
+}
+
+/// Names and places are those of the record, of the header for C, and of the page for editors.
+#[test]
+fn names_every_field() {
+    let record = format!("{:?}", bench()).replace("Context { ", "");
+    let declared = record.split(", ").map(|field| field.split(':').next().unwrap());
+    assert!(declared.eq(Context::FIELDS));
+    let header = include_str!("../../../include/crafty.h").lines();
+    let places = header.filter_map(|line| line.trim().strip_prefix("CRAFTY_AT_"));
+    let named = places.map(|place| place.split(',').next().unwrap().to_lowercase());
+    assert!(named.eq(Context::FIELDS));
+    let page = include_str!("../../../docs/REFUSALS.md");
+    for (place, name) in Context::FIELDS.into_iter().enumerate() {
+        let built = place + 22;
+        assert!(page.contains(&format!("\n| {place} | {built} | `{name}` |")), "{name}");
+    }
 }
 
 /// The text of a context's fields is the line that the program reads.

@@ -167,8 +167,10 @@ fn refuses_before_any_work() {
     wrong.assert_refused(Refusal::NoRoom { needed: 1 });
     wrong.context.step_max = 0;
     wrong.assert_refused(Refusal::BadSearch);
+    wrong.context.action_pool = 1 << 31;
+    wrong.assert_refused(Refusal::OutsideLimits { place: 11 });
     wrong.context.durability_max = 98;
-    wrong.assert_refused(Refusal::OutsideLimits);
+    wrong.assert_refused(Refusal::OutsideLimits { place: 8 });
 }
 
 /// Of a float, from 0 to the most; above it comes the next.

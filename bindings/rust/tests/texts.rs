@@ -11,6 +11,25 @@ const OUTPUT: &str = "    0/  200 progress |     0/    0 quality | 40/40 durabil
 finished 3F000000 executed 3 of 3
 ";
 
+/// The most that each field of the line takes.
+const MOST: [u64; 15] = [
+    4_294_967_295,
+    4_294_967_295,
+    200_070,
+    200_070,
+    255,
+    1_000_000,
+    1_000_000,
+    1_000_000,
+    97,
+    1_000_000,
+    1,
+    2_147_483_647,
+    1,
+    1,
+    1,
+];
+
 fn input() -> Vec<u8> {
     format!("{LINE}\nVeneration BasicSynthesis BasicSynthesis\n").into_bytes()
 }
@@ -26,12 +45,34 @@ fn refuses_an_input() {
     let refused = |text: String| replay_text(text.as_bytes()).unwrap_err();
     let outside = LINE.replace("40", "98");
     assert_eq!(refused(format!("{LINE} ")), Refusal::MalformedLine);
-    assert_eq!(refused(format!("{outside}\nNope")), Refusal::OutsideLimits);
+    assert_eq!(refused(format!("{outside}\nNope")), Refusal::OutsideLimits { place: 8 });
     assert_eq!(refused(format!("{LINE}\nVeneration Nope")), Refusal::UnknownWord { offset: 53 });
     assert_eq!(refused(" ".repeat(65_536)), Refusal::MalformedLine);
     assert_eq!(refused(" ".repeat(65_537)), Refusal::TooLong);
     assert_eq!(print(b"no numbers\n"), "refused 12\n");
+    assert_eq!(print(format!("{outside}\n").as_bytes()), "refused 1\n");
     assert_eq!(print(&[b' '; 65_537]), "refused 13\n");
+}
+
+/// The line, with numbers at some places.
+fn line_with(numbers: &[(usize, u64)]) -> String {
+    let mut words: Vec<String> = LINE.split(' ').map(str::to_string).collect();
+    for (place, number) in numbers {
+        words[*place] = number.to_string();
+    }
+    words.join(" ") + "\n"
+}
+
+/// Whatever is wrong with it, and with a later one.
+#[test]
+fn tells_the_first_field_outside() {
+    for (place, most) in MOST.into_iter().enumerate() {
+        assert!(replay_text(line_with(&[(place, most)]).as_bytes()).is_ok(), "{place}");
+        for (later, later_most) in MOST.into_iter().enumerate().skip(place) {
+            let line = line_with(&[(later, later_most + 1), (place, most + 1)]);
+            assert_eq!(replay_text(line.as_bytes()), Err(Refusal::OutsideLimits { place }));
+        }
+    }
 }
 
 #[test]

@@ -64,8 +64,8 @@ fn refuses_to_start() {
     let of =
         |length: usize, unused| refusal(grown(), |nodes| tree::new(&mut nodes[..length], unused));
     assert_eq!(of(0, ALL_MOVES), Refusal::NoRoom { needed: 1 });
-    assert_eq!(of(0, 1 << 31), Refusal::OutsideLimits);
-    assert_eq!(of(5, u32::MAX), Refusal::OutsideLimits);
+    assert_eq!(of(0, 1 << 31), Refusal::OutsideLimits { place: 0 });
+    assert_eq!(of(5, u32::MAX), Refusal::OutsideLimits { place: 0 });
 }
 
 #[test]
@@ -87,8 +87,8 @@ fn refuses_to_insert() {
     assert_eq!(of(4, COUNT, 4, 30, ALL_MOVES), Refusal::UnknownNode);
     assert_eq!(of(4, 5, 5, 30, ALL_MOVES), Refusal::UnsoundTree);
     assert_eq!(of(4, 5, 5, 31, ALL_MOVES), Refusal::UnknownAction { place: 0 });
-    assert_eq!(of(4, 5, 5, 31, 1 << 31), Refusal::OutsideLimits);
-    assert_eq!(of(5, COUNT, 3, 30, u32::MAX), Refusal::OutsideLimits);
+    assert_eq!(of(4, 5, 5, 31, 1 << 31), Refusal::OutsideLimits { place: 0 });
+    assert_eq!(of(5, COUNT, 3, 30, u32::MAX), Refusal::OutsideLimits { place: 0 });
 }
 
 #[test]
