@@ -91,7 +91,7 @@ given-first context state = tells-first [] (contextLimits context) (stateTest co
 
 pub outside-CraftState-check : (context : CraftContext) (state : CraftState)
     → TellsFirst (checking .told) (contextLimits context) (ChecksState context state)
-outside-CraftState-check = given-first
+outside-CraftState-check context state = given-first context state
 
 pub outside-moves : (context : CraftContext) (state : CraftState) (mode : Mode)
     → TellsFirst (allowed .told) (contextLimits context) (HasMoves context state mode)

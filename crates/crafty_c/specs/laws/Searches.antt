@@ -150,7 +150,9 @@ outside-zero values o logs draws nodes out {r} s one = by (checksOf (numberTests
     by Passed e =
         let told : foundTold r ≡ searchedTold (searchedOf c o logs draws nodes out) = s .number ∙ sym (judged-passed reportOf _ (numberTests values) e) in
         let inside = context-passes c (passed-taken values e .inside) in
-        let whole = record { number = refl; same = refl; records = refl; room = refl } in
+        let whole : Searches c o logs draws nodes out (searchedOf c o logs draws nodes out) (recordsOf c o logs draws nodes out) (roomOf c o logs draws nodes out) =
+        record { number = refl; same = refl; records = refl; room = refl }
+        in
         absurd (inside-not-1 c o logs draws nodes out (sym inside) whole (sym (ap (λ (report : Report). report .0) told) ∙ one))
 
 pub found-first : (values : List ℕ) (o : SearchOptions) (logs : List Float) (draws : List ℕ) (nodes : List Node) (out : List ℕ)
