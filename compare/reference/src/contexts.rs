@@ -1,7 +1,9 @@
-//! Answers of the builder, kind 21: the fifteen fields of the context, or refusal 1.
+//! Answers of the builder, kind 21: the fifteen fields of the context, or refusal 1 with its place.
 
 use crate::case::{Case, NUMBERS};
+use crate::limits::{self, Limit, ANY, CONTEXT};
 use crate::refusal::{line, Refusal};
+use crate::states::fields::context_numbers;
 use crafty::{CraftContext, CraftOptions, Player, Recipe};
 
 /// The weights of the flags in the last number of a case.
@@ -13,19 +15,23 @@ pub const HAS_QUALITY_TARGET: u32 = 16;
 pub const EXPERT: u32 = 32;
 pub const FLAGS: usize = NUMBERS - 1;
 
+const STAT: Limit = 0..=10_000;
+const DIV: Limit = 1..=1_000;
+const MOD: Limit = 0..=200;
+/// Those of the player's four fields and of the recipe's first ten, whose places are those of a case's numbers. The fields
+/// behind them have no limit of their own.
+const SHEET: [Limit; 14] = [ANY, STAT, STAT, ANY, ANY, ANY, ANY, ANY, ANY, ANY, DIV, MOD, DIV, MOD];
+/// Before the built context's fields come the player's four, the recipe's twelve and the options' six.
+const BUILT: usize = 4 + 12 + 6;
+
 pub fn answer(case: &Case) -> String {
     line(built(&case.numbers))
 }
 
 fn built(numbers: &[u32; NUMBERS]) -> Result<String, Refusal> {
-    let (player, recipe) = (player(numbers), recipe(numbers));
-    if !can_build(&player, &recipe) {
-        return Err(Refusal::Outside);
-    }
-    let context = CraftContext::new(&player, &recipe, options(numbers));
-    if !is_inside(&context) {
-        return Err(Refusal::Outside);
-    }
+    limits::check(numbers, &SHEET, 0)?;
+    let context = CraftContext::new(&player(numbers), &recipe(numbers), options(numbers));
+    limits::check(&context_numbers(&context), &CONTEXT, BUILT)?;
     Ok(fields(&context))
 }
 
@@ -70,25 +76,6 @@ fn durability(number: u32) -> i8 {
         129 => -19,
         _ => -128,
     }
-}
-
-fn can_build(player: &Player, recipe: &Recipe) -> bool {
-    let stats = [player.craftsmanship, player.control];
-    let divs = [recipe.progress_div, recipe.quality_div];
-    let mods = [recipe.progress_mod, recipe.quality_mod];
-    stats.iter().all(|stat| *stat <= 10_000)
-        && divs.iter().all(|div| (1..=1_000).contains(div))
-        && mods.iter().all(|modifier| *modifier <= 200)
-}
-
-pub fn is_inside(context: &CraftContext) -> bool {
-    let factors = [context.base_progress_factor, context.base_quality_factor];
-    let amounts =
-        [context.progress_target, context.starting_quality, context.quality_target, context.cp_max];
-    factors.iter().all(|factor| *factor <= 200_070)
-        && amounts.iter().all(|amount| *amount <= 1_000_000)
-        && (1..=97).contains(&context.durability_max)
-        && context.action_pool.bits() >> 31 == 0
 }
 
 fn fields(context: &CraftContext) -> String {

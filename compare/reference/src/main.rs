@@ -16,6 +16,7 @@ mod edges;
 mod fixed;
 mod formulas;
 mod generate;
+mod limits;
 mod lined;
 mod random;
 mod refusal;
