@@ -2,8 +2,11 @@
 
 use crate::case::{Case, NUMBERS};
 use crate::limits::{self, Limit, ANY, CONTEXT};
+use crate::outside::{self, Side, WORD};
 use crate::refusal::{line, Refusal};
-use crate::states::fields::context_numbers;
+use crate::states::fields::{
+    context_numbers, CP_MAX, DURABILITY_MAX, PROGRESS_TARGET, QUALITY_TARGET, STARTING_QUALITY,
+};
 use crafty::{CraftContext, CraftOptions, Player, Recipe};
 
 /// The weights of the flags in the last number of a case.
@@ -24,6 +27,17 @@ const SHEET: [Limit; 14] = [ANY, STAT, STAT, ANY, ANY, ANY, ANY, ANY, ANY, ANY, 
 /// Before the built context's fields come the player's four, the recipe's twelve and the options' six.
 const BUILT: usize = 4 + 12 + 6;
 
+/// The numbers that go into the context as they are, with their fields there; of the two of quality_target the second goes
+/// where it is given.
+const TAKEN: [(usize, usize); 6] = [
+    (3, CP_MAX),
+    (7, PROGRESS_TARGET),
+    (8, QUALITY_TARGET),
+    (9, DURABILITY_MAX),
+    (16, STARTING_QUALITY),
+    (17, QUALITY_TARGET),
+];
+
 pub fn answer(case: &Case) -> String {
     line(built(&case.numbers))
 }
@@ -33,6 +47,13 @@ fn built(numbers: &[u32; NUMBERS]) -> Result<String, Refusal> {
     let context = CraftContext::new(&player(numbers), &recipe(numbers), options(numbers));
     limits::check(&context_numbers(&context), &CONTEXT, BUILT)?;
     Ok(fields(&context))
+}
+
+/// The limits that the numbers of a case can pass.
+pub fn sides() -> Vec<Side> {
+    let own = SHEET.into_iter().enumerate();
+    let taken = TAKEN.into_iter().map(|(number, field)| (number, CONTEXT[field].clone()));
+    own.chain(taken).flat_map(|(number, limit)| outside::sides(number, limit, WORD)).collect()
 }
 
 fn player(numbers: &[u32; NUMBERS]) -> Player {

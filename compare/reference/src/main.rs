@@ -18,6 +18,8 @@ mod formulas;
 mod generate;
 mod limits;
 mod lined;
+mod outside;
+mod places;
 mod random;
 mod refusal;
 mod replays;
