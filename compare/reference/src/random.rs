@@ -24,7 +24,7 @@ impl Random {
         least + self.below(greatest - least + 1)
     }
 
-    /// Of numbers that need not fit 32 bits, as even as 64 of them divide.
+    /// Also of numbers that do not fit 32 bits; as even as 64 bits divide.
     pub fn from_to(&mut self, least: u64, greatest: u64) -> u64 {
         let bits = u64::from(self.bits()) << 32 | u64::from(self.bits());
         least + bits % (greatest - least + 1)
