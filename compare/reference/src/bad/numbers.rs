@@ -33,7 +33,7 @@ pub fn damage(random: &mut Random, numbers: &mut [u32]) {
     }
 }
 
-/// One time in four all of them, one time in four some, one time in four some of those that have limits.
+/// One time in four all of them, one time in four some, one time in four one to three outside their limits.
 pub fn spoil(random: &mut Random, numbers: &mut [u32], sides: &[Side]) {
     match random.below(4) {
         0 => replace(random, numbers),
