@@ -3,7 +3,7 @@
 use crate::ask::ask;
 use crate::case::Case;
 use crate::counts::Counts;
-use crate::lined::{refusal_number, Asked, Lined};
+use crate::lined::{refused, Asked, Lined};
 use crate::{actions, contexts, edges, fixed, formulas, generate, sets};
 use std::io;
 
@@ -38,14 +38,17 @@ pub fn compare(seed: u64, count: u64, program: &[&str]) -> io::Result<()> {
     let cases = cases.chain(generate::cases(seed, count)).map(Asked::new);
     let mut counts = Counts::default();
     let asked = ask(program, cases, |case| count_case(&mut counts, case))?;
-    println!("{counts}compare: {asked} cases equal, seed {seed}");
+    print!("{counts}");
+    counts.check_places(1);
+    println!("compare: {asked} cases equal, seed {seed}");
     Ok(())
 }
 
 pub fn count_case(counts: &mut Counts, case: &Asked<Case>) {
     let name = name(&case.what);
     let answer = case.parts().next().expect("a part");
-    counts.answered(name, refusal_number(answer));
+    let (number, value) = refused(answer);
+    counts.answered(name, number, value);
     if answer == formulas::OUTSIDE {
         counts.met(&format!("{name}, outside"));
     }

@@ -1,7 +1,12 @@
-//! Answers of the builder, kind 21: the fifteen fields of the context, or refusal 1.
+//! Answers of the builder, kind 21: the fifteen fields of the context, or refusal 1 with its place.
 
 use crate::case::{Case, NUMBERS};
+use crate::limits::{self, Limit, ANY, CONTEXT};
+use crate::outside::{self, Side, WORD};
 use crate::refusal::{line, Refusal};
+use crate::states::fields::{
+    context_numbers, CP_MAX, DURABILITY_MAX, PROGRESS_TARGET, QUALITY_TARGET, STARTING_QUALITY,
+};
 use crafty::{CraftContext, CraftOptions, Player, Recipe};
 
 /// The weights of the flags in the last number of a case.
@@ -13,20 +18,42 @@ pub const HAS_QUALITY_TARGET: u32 = 16;
 pub const EXPERT: u32 = 32;
 pub const FLAGS: usize = NUMBERS - 1;
 
+const STAT: Limit = 0..=10_000;
+const DIV: Limit = 1..=1_000;
+const MOD: Limit = 0..=200;
+/// Those of the player's four fields and of the recipe's first ten, whose places are those of a case's numbers. The fields
+/// behind them have no limit of their own.
+const SHEET: [Limit; 14] = [ANY, STAT, STAT, ANY, ANY, ANY, ANY, ANY, ANY, ANY, DIV, MOD, DIV, MOD];
+/// Before the built context's fields come the player's four, the recipe's twelve and the options' six.
+const BUILT: usize = 4 + 12 + 6;
+
+/// The numbers that go into the context as they are, with their fields there; of the two of quality_target the second goes
+/// where it is given.
+const TAKEN: [(usize, usize); 6] = [
+    (3, CP_MAX),
+    (7, PROGRESS_TARGET),
+    (8, QUALITY_TARGET),
+    (9, DURABILITY_MAX),
+    (16, STARTING_QUALITY),
+    (17, QUALITY_TARGET),
+];
+
 pub fn answer(case: &Case) -> String {
     line(built(&case.numbers))
 }
 
 fn built(numbers: &[u32; NUMBERS]) -> Result<String, Refusal> {
-    let (player, recipe) = (player(numbers), recipe(numbers));
-    if !can_build(&player, &recipe) {
-        return Err(Refusal::Outside);
-    }
-    let context = CraftContext::new(&player, &recipe, options(numbers));
-    if !is_inside(&context) {
-        return Err(Refusal::Outside);
-    }
+    limits::check(numbers, &SHEET, 0)?;
+    let context = CraftContext::new(&player(numbers), &recipe(numbers), options(numbers));
+    limits::check(&context_numbers(&context), &CONTEXT, BUILT)?;
     Ok(fields(&context))
+}
+
+/// The limits that the numbers of a case can pass.
+pub fn sides() -> Vec<Side> {
+    let own = SHEET.into_iter().enumerate();
+    let taken = TAKEN.into_iter().map(|(number, field)| (number, CONTEXT[field].clone()));
+    own.chain(taken).flat_map(|(number, limit)| outside::sides(number, limit, WORD)).collect()
 }
 
 fn player(numbers: &[u32; NUMBERS]) -> Player {
@@ -70,25 +97,6 @@ fn durability(number: u32) -> i8 {
         129 => -19,
         _ => -128,
     }
-}
-
-fn can_build(player: &Player, recipe: &Recipe) -> bool {
-    let stats = [player.craftsmanship, player.control];
-    let divs = [recipe.progress_div, recipe.quality_div];
-    let mods = [recipe.progress_mod, recipe.quality_mod];
-    stats.iter().all(|stat| *stat <= 10_000)
-        && divs.iter().all(|div| (1..=1_000).contains(div))
-        && mods.iter().all(|modifier| *modifier <= 200)
-}
-
-pub fn is_inside(context: &CraftContext) -> bool {
-    let factors = [context.base_progress_factor, context.base_quality_factor];
-    let amounts =
-        [context.progress_target, context.starting_quality, context.quality_target, context.cp_max];
-    factors.iter().all(|factor| *factor <= 200_070)
-        && amounts.iter().all(|amount| *amount <= 1_000_000)
-        && (1..=97).contains(&context.durability_max)
-        && context.action_pool.bits() >> 31 == 0
 }
 
 fn fields(context: &CraftContext) -> String {

@@ -1,5 +1,7 @@
-//! What the questions of a run met: how each entry answered, and what else is counted by a name.
+//! What the questions of a run met: how each entry answered, with which place where it gave refusal 1, and what else is
+//! counted by a name.
 
+use crate::places::Places;
 use std::collections::BTreeMap;
 use std::fmt;
 
@@ -10,12 +12,22 @@ const NUMBERS: usize = 22;
 pub struct Counts {
     /// Of each entry how often it gave each refusal; at 0 how often it answered.
     entries: BTreeMap<&'static str, [u64; NUMBERS]>,
+    places: Places,
     others: BTreeMap<String, u64>,
 }
 
 impl Counts {
-    pub fn answered(&mut self, entry: &'static str, refusal: usize) {
-        self.entries.entry(entry).or_default()[refusal] += 1;
+    /// By a refusal's number, or 0, and by the value that came back.
+    pub fn answered(&mut self, entry: &'static str, number: u64, value: u64) {
+        self.entries.entry(entry).or_default()[number as usize] += 1;
+        if number == 1 {
+            self.places.add(entry, value);
+        }
+    }
+
+    /// Fails unless each entry asked gave each of its places so often, and no other.
+    pub fn check_places(&self, least: u64) {
+        self.entries.keys().for_each(|entry| self.places.check(entry, least));
     }
 
     pub fn met(&mut self, what: &str) {
@@ -47,6 +59,7 @@ impl fmt::Display for Counts {
             }
             writeln!(out)?;
         }
+        write!(out, "{}", self.places)?;
         self.others.iter().try_for_each(|(what, count)| writeln!(out, "{count:>10} {what}"))?;
         match self.others.iter().min_by_key(|(_, count)| **count) {
             Some((what, count)) => writeln!(out, "least: {count} {what}"),

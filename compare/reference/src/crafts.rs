@@ -3,6 +3,7 @@
 use crate::ask::ask;
 use crate::displays;
 use crate::lined::{Asked, Lined};
+use crate::places::Places;
 use crate::refusal::Refusal;
 use crate::replays::{self, Replay};
 use crate::states::tally::{Event, Tally};
@@ -41,7 +42,7 @@ pub fn compare_displays(seed: u64, count: u64, program: &[&str]) -> io::Result<(
 }
 
 fn compare(
-    name: &str,
+    name: &'static str,
     seed: u64,
     fixed: impl ExactSizeIterator<Item = Craft> + Send + 'static,
     random: impl Iterator<Item = Craft> + Send + 'static,
@@ -49,6 +50,7 @@ fn compare(
     program: &[&str],
 ) -> io::Result<()> {
     let mut tally = Tally::new(events);
+    let mut places = Places::default();
     let mut left = fixed.len();
     let asked = ask(program, fixed.chain(random).map(Asked::new), |craft| {
         if left == 0 {
@@ -57,9 +59,14 @@ fn compare(
         left = left.saturating_sub(1);
         if let Err(refusal) = craft.what.count(&mut tally) {
             tally.add(Event::refused(refusal));
+            if let Refusal::Outside { place } = refusal {
+                places.add(name, place as u64);
+            }
         }
     })?;
-    println!("{tally}compare: {asked} {name} equal, seed {seed}");
+    print!("{tally}{places}");
+    places.check(name, 1);
+    println!("compare: {asked} {name} equal, seed {seed}");
     Ok(())
 }
 

@@ -2,8 +2,9 @@
 
 use crate::actions::text;
 use crate::case::{Case, NUMBERS};
-use crate::contexts::{FLAGS, HAS_QUALITY_TARGET, HAS_STARTING_QUALITY};
+use crate::contexts::{self, FLAGS, HAS_QUALITY_TARGET, HAS_STARTING_QUALITY};
 use crate::edges::plain;
+use crate::outside::around;
 use crafty::Action;
 
 const UNKNOWN: [u32; 3] = [31, 32, 255];
@@ -17,7 +18,7 @@ pub fn cases() -> Vec<Case> {
     let actions = [rows(), rooms(), words()];
     let sets = [sets(), lists(), members(), pairs()];
     let formulas = [progress_increases(), quality_increases(), durability_costs()];
-    let contexts = [contexts()];
+    let contexts = [contexts(), sheets()];
     actions.into_iter().chain(sets).chain(formulas).chain(contexts).flatten().collect()
 }
 
@@ -168,10 +169,21 @@ fn contexts() -> Vec<Case> {
         amount,
         &flags,
     ];
-    let mut target_given = plain();
-    target_given[8] = u32::MAX;
-    target_given[FLAGS] |= HAS_STARTING_QUALITY | HAS_QUALITY_TARGET;
-    [plain(), target_given].iter().flat_map(|middle| varied(21, middle, &fields)).collect()
+    [plain(), given()].iter().flat_map(|middle| varied(21, middle, &fields)).collect()
+}
+
+/// With both options, so that the recipe's quality is not taken.
+fn given() -> [u32; NUMBERS] {
+    let mut numbers = plain();
+    numbers[8] = u32::MAX;
+    numbers[FLAGS] |= HAS_STARTING_QUALITY | HAS_QUALITY_TARGET;
+    numbers
+}
+
+/// Each number at its limits, and every two outside.
+fn sheets() -> Vec<Case> {
+    let sheets = [plain(), given()].map(|middle| around(&middle, &contexts::sides()));
+    sheets.concat().iter().map(|sheet| Case::new(21, sheet)).collect()
 }
 
 /// The middle with one of its numbers replaced, by each of that number's values in turn.

@@ -59,9 +59,10 @@ impl<T: Lined> Question for Asked<T> {
     }
 }
 
-/// The number of the refusal that a part of an answer is, 0 of any other.
-pub fn refusal_number(part: &str) -> usize {
-    let Some(refused) = part.strip_prefix("refused ") else { return 0 };
-    let number = refused.split(' ').next().and_then(|number| number.parse().ok());
-    number.expect("a refusal has a number")
+/// The number and the value of the refusal that a part of an answer is; 0 where there is none.
+pub fn refused(part: &str) -> (u64, u64) {
+    let Some(refused) = part.strip_prefix("refused ") else { return (0, 0) };
+    let mut words = refused.split(' ').map(|word| word.parse().ok());
+    let number = words.next().flatten().expect("a refusal has a number");
+    (number, words.next().flatten().unwrap_or(0))
 }

@@ -24,6 +24,12 @@ impl Random {
         least + self.below(greatest - least + 1)
     }
 
+    /// Also of numbers that do not fit 32 bits; as even as 64 bits divide.
+    pub fn from_to(&mut self, least: u64, greatest: u64) -> u64 {
+        let bits = u64::from(self.bits()) << 32 | u64::from(self.bits());
+        least + bits % (greatest - least + 1)
+    }
+
     pub fn one_in(&mut self, many: u32) -> bool {
         self.below(many) == 0
     }

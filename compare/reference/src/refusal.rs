@@ -1,10 +1,10 @@
-//! The refusals: the Rust has none, so this is a model of the table in the scope's paper.
+//! The refusals: the Rust has none, so this is a model of the table in the scope's paper, with the place of request E1.
 
 use std::fmt;
 
 #[derive(Clone, Copy)]
 pub enum Refusal {
-    Outside,
+    Outside { place: usize },
     OutsideState,
     UnknownAction { place: usize },
     IllegalMove,
@@ -25,7 +25,7 @@ pub enum Refusal {
 impl Refusal {
     pub fn number(self) -> u8 {
         match self {
-            Refusal::Outside => 1,
+            Refusal::Outside { .. } => 1,
             Refusal::OutsideState => 2,
             Refusal::UnknownAction { .. } => 3,
             Refusal::IllegalMove => 4,
@@ -46,7 +46,7 @@ impl Refusal {
 
     pub fn also(self) -> Option<usize> {
         match self {
-            Refusal::UnknownAction { place } => Some(place),
+            Refusal::Outside { place } | Refusal::UnknownAction { place } => Some(place),
             Refusal::UnknownWord { offset } => Some(offset),
             Refusal::RoomTooShort { needed } => Some(needed),
             _ => None,

@@ -28,9 +28,10 @@ pub fn answer(case: &Case) -> String {
     }
 }
 
+/// The place of a set is 0.
 pub fn set(bits: u32) -> Result<ActionSet, Refusal> {
     if bits >> 31 == 1 {
-        return Err(Refusal::Outside);
+        return Err(Refusal::Outside { place: 0 });
     }
     let mut set = ActionSet::new();
     set.set_bit(bits);

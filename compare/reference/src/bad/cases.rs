@@ -4,9 +4,11 @@ use super::{bytes, inputs, numbers, possible};
 use crate::ask::ask;
 use crate::case::{Case, TEXT_ROOM};
 use crate::cases::count_case;
+use crate::contexts;
 use crate::counts::Counts;
 use crate::generate::{sheet, word};
 use crate::lined::Asked;
+use crate::outside;
 use crate::random::Random;
 use std::io;
 
@@ -64,7 +66,8 @@ fn sheet_damaged(random: &mut Random) -> Vec<u32> {
     let mut sheet = sheet(random).to_vec();
     match random.below(4) {
         0 => numbers::replace(random, &mut sheet),
-        _ => numbers::damage(random, &mut sheet),
+        1 => numbers::damage(random, &mut sheet),
+        _ => outside::push(random, &mut sheet, &contexts::sides()),
     }
     sheet
 }

@@ -5,7 +5,8 @@ use crate::ask::ask;
 use crate::counts::Counts;
 use crate::crafts::Craft;
 use crate::displays;
-use crate::lined::{refusal_number, Asked};
+use crate::lined::{refused, Asked};
+use crate::outside;
 use crate::random::Random;
 use crate::replays::{self, Replay, LIST_MOST, UNKNOWN_MOST};
 use crate::states::fields::{LAST, STEP};
@@ -21,7 +22,7 @@ enum Kind {
 
 const KINDS: &[Kind] = &[Kind::State, Kind::Replay, Kind::Display];
 /// An illegal step, refusal 4, is a dash in a line.
-const ILLEGAL: usize = 4;
+const ILLEGAL: u64 = 4;
 
 pub fn compare(seed: u64, count: u64, program: &[&str]) -> io::Result<()> {
     let crafts = inputs(seed, count, KINDS, craft).map(Asked::new);
@@ -51,7 +52,8 @@ fn state(random: &mut Random) -> Numbers {
         1 => numbers::replace(random, context),
         2 => numbers::replace(random, state),
         3 => numbers::damage(random, context),
-        4 | 5 => numbers::damage(random, state),
+        4 => numbers::damage(random, state),
+        5 => outside::push(random, context, &outside::in_record()),
         6 => numbers::damage(random, &mut numbers[..=LAST]),
         _ => {}
     }
@@ -60,7 +62,7 @@ fn state(random: &mut Random) -> Numbers {
 
 fn replay(random: &mut Random) -> Replay {
     let mut replay = replays::random_one(random);
-    numbers::spoil(random, &mut replay.context);
+    numbers::spoil(random, &mut replay.context, &outside::in_record());
     if random.one_in(2) {
         replay.list = list(random);
     }
@@ -76,23 +78,20 @@ fn count_craft(counts: &mut Counts, craft: &Asked<Craft>) {
     match &craft.what {
         Craft::State(_) => {
             let parts = craft.parts().enumerate();
-            parts.for_each(|(place, part)| counts.answered(entry(place), number(part)));
+            parts.for_each(|(place, part)| count_part(counts, entry(place), part));
         }
-        Craft::Replay(_) => counts.answered("replay", first_number(craft)),
-        Craft::Display(_) => counts.answered("display", first_number(craft)),
+        Craft::Replay(_) => count_part(counts, "replay", first_part(craft)),
+        Craft::Display(_) => count_part(counts, "display", first_part(craft)),
     }
 }
 
-fn first_number(craft: &Asked<Craft>) -> usize {
-    number(craft.parts().next().expect("a part"))
+fn first_part(craft: &Asked<Craft>) -> &str {
+    craft.parts().next().expect("a part")
 }
 
-fn number(part: &str) -> usize {
-    if part == "-" {
-        ILLEGAL
-    } else {
-        refusal_number(part)
-    }
+fn count_part(counts: &mut Counts, entry: &'static str, part: &str) {
+    let (number, value) = if part == "-" { (ILLEGAL, 0) } else { refused(part) };
+    counts.answered(entry, number, value);
 }
 
 /// The entry that a part of a state's answer comes from.

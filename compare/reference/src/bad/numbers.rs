@@ -1,5 +1,6 @@
 //! Numbers that may be anything, also in the place of good ones.
 
+use crate::outside::{self, Side};
 use crate::random::Random;
 use crate::texts::EDGES;
 
@@ -32,11 +33,12 @@ pub fn damage(random: &mut Random, numbers: &mut [u32]) {
     }
 }
 
-/// One time in four all of them, one time in four some.
-pub fn spoil(random: &mut Random, numbers: &mut [u32]) {
+/// One time in four all of them, one time in four some, one time in four one to three outside their limits.
+pub fn spoil(random: &mut Random, numbers: &mut [u32], sides: &[Side]) {
     match random.below(4) {
         0 => replace(random, numbers),
         1 => damage(random, numbers),
+        2 => outside::push(random, numbers, sides),
         _ => {}
     }
 }

@@ -3,7 +3,7 @@
 use crate::counts::Counts;
 use crate::fail;
 
-/// Each refusal is met, and each entry answers, at least once in so many inputs of a run.
+/// Each refusal and each place of 1 is met, and each entry answers, at least once in so many inputs of a run.
 const LEAST_ONCE_IN: u64 = 10_000;
 
 type Entry = (&'static str, &'static [usize]);
@@ -67,5 +67,6 @@ pub fn report(counts: &Counts, entries: &[Entry], asked: u64, seed: u64) {
             }
         }
     }
+    counts.check_places(asked / LEAST_ONCE_IN);
     println!("compare: {asked} bad inputs answered as they must be, seed {seed}");
 }

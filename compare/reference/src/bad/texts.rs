@@ -3,6 +3,7 @@
 use super::{bytes, inputs, numbers, possible};
 use crate::ask::ask;
 use crate::counts::Counts;
+use crate::outside;
 use crate::random::Random;
 use crate::replays::random_one;
 use crate::texts::{damage_text, in_room, list_of, text_of, words_of, Call, Case, Function};
@@ -26,7 +27,7 @@ pub fn compare(seed: u64, count: u64, host: &[&str]) -> io::Result<()> {
     });
     let mut counts = Counts::default();
     let asked = ask(host, calls, |case: &Case| {
-        counts.answered(case.call.function.name(), case.answer.number as usize)
+        counts.answered(case.call.function.name(), case.answer.number, case.answer.value)
     })?;
     possible::report(&counts, possible::OF_TEXTS, asked, seed);
     Ok(())
@@ -43,14 +44,20 @@ fn call(random: &mut Random, function: Function) -> Call {
 
 fn replay(random: &mut Random) -> Call {
     let mut replay = random_one(random);
-    numbers::spoil(random, &mut replay.context);
+    numbers::spoil(random, &mut replay.context, &outside::in_words());
     Call::replay(replay.context, replay.mode, &list(random))
 }
 
+/// One in four has a whole line, with numbers outside their limits.
 fn text(random: &mut Random) -> Vec<u8> {
     let replay = random_one(random);
     let words = words_of(random, &list_of(&replay));
-    damaged(random, text_of(&replay.context, &words))
+    let mut numbers = replay.context.map(u64::from);
+    if random.one_in(4) {
+        outside::push(random, &mut numbers, &outside::in_line());
+        return text_of(&numbers, &words);
+    }
+    damaged(random, text_of(&numbers, &words))
 }
 
 fn words(random: &mut Random) -> Vec<u8> {

@@ -17,7 +17,7 @@ pub fn compare(seed: u64, count: u64, host: &[&str]) -> io::Result<()> {
         inputs(seed, count, &FUNCTIONS, |random, function| Case::new(call(random, function)));
     let mut counts = Counts::default();
     let asked = ask(host, calls, |case| {
-        counts.answered(case.call.function.name(), case.answer.number as usize)
+        counts.answered(case.call.function.name(), case.answer.number, case.answer.value)
     })?;
     possible::report(&counts, possible::OF_TREES, asked, seed);
     Ok(())

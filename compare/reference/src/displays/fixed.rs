@@ -3,6 +3,7 @@
 
 use super::generate;
 use super::line::{needed, with_room, ROOM_MOST};
+use crate::outside::{around, in_record};
 use crate::states::bench::bench;
 use crate::states::fields::{
     numbers, CP, CP_MAX, DURABILITY, DURABILITY_MAX, PROGRESS, PROGRESS_TARGET, QUALITY,
@@ -35,7 +36,7 @@ const SHOWN: [(usize, &[u32]); 8] = [
 ];
 
 pub fn displays() -> Vec<Numbers> {
-    let lists = [digits(), rooms(), refused_with_no_room()];
+    let lists = [digits(), rooms(), fields(), refused_with_no_room()];
     let random = generate::displays(SEED, RANDOM);
     lists.into_iter().flatten().chain(random).collect()
 }
@@ -92,6 +93,12 @@ fn in_rooms(state: &Numbers) -> Vec<Numbers> {
     let around = needed - 2..=needed + 2;
     let sizes = [0, 1].into_iter().chain(around).chain([ROOM_MOST]);
     sizes.map(|room| with_room(state, room)).collect()
+}
+
+/// Each field of the context at its limits, and every two outside, into a room that is exact.
+fn fields() -> Vec<Numbers> {
+    let states = around(&numbers(&least(&wide())), &in_record());
+    states.iter().map(|state| with_room(state, needed(state))).collect()
 }
 
 /// A context outside its limits, a state outside its own, and both, before a room that is too short.

@@ -3,6 +3,7 @@
 
 use super::generate;
 use super::line::{Replay, LIST_MOST, UNKNOWN_LEAST, UNKNOWN_MOST};
+use crate::outside::{around, in_record};
 use crate::states::bench::{bench, crafts, expert, with_cp, Craft};
 use crate::states::fixed::CONTEXT_VALUES;
 use crate::states::mode::Mode;
@@ -15,7 +16,7 @@ const RANDOM: u64 = 64;
 const SHORT: [Action; 3] = [BasicTouch, StandardTouch, BasicSynthesis];
 
 pub fn replays() -> Vec<Replay> {
-    let lists = [bench_crafts(), limits(), unknown(), lengths(), refused_twice()];
+    let lists = [bench_crafts(), limits(), fields(), unknown(), lengths(), refused_twice()];
     let random = generate::replays(SEED, RANDOM);
     lists.into_iter().flatten().chain(random).collect()
 }
@@ -61,6 +62,13 @@ fn limits() -> Vec<Replay> {
         }));
     }
     replays
+}
+
+/// Each field of the context at its limits, and every two outside.
+fn fields() -> Vec<Replay> {
+    let replay = || Replay::new(&bench(), Mode::Plain, &SHORT);
+    let contexts = around(&replay().context, &in_record());
+    contexts.into_iter().map(|context| Replay { context, ..replay() }).collect()
 }
 
 /// At the first, a middle and the last place, twice, after an illegal action, and past the craft's end.

@@ -2,9 +2,9 @@
 
 use super::line::{Replay, UNKNOWN_LEAST, UNKNOWN_MOST};
 use super::random_list;
+use crate::outside::{self, in_record};
 use crate::random::Random;
 use crate::states::mode::Mode;
-use crate::states::outside::{context_values, push_outside};
 use crate::states::random_context;
 use crafty::CraftContext;
 
@@ -21,8 +21,7 @@ pub fn replay(random: &mut Random) -> Replay {
         push_unknown(random, &mut replay.list);
     }
     if random.one_in(64) {
-        let outside = context_values(&replay.context);
-        push_outside(random, &mut replay.context, &outside);
+        outside::push(random, &mut replay.context, &in_record());
     }
     replay
 }

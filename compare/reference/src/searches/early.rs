@@ -1,25 +1,21 @@
-//! What is wrong before any work: a field of the context, an option, a logarithm, and no record at all.
+//! What is wrong before any work: fields of the context, an option, a logarithm, and no record at all.
 
 use super::call::Call;
 use super::logarithms::{LOGARITHMS, LOGARITHM_MOST};
 use super::options::{EXPLORATION_MOST, ITERATIONS_MOST, WEIGHTING_MOST};
+use crate::outside::{self, in_words};
 use crate::random::Random;
-use crate::states::fields::ContextNumbers;
-use crate::states::outside::{context_values, push_outside};
 use crate::trees::{LEAST, NANS};
 use std::sync::Arc;
 
 /// The place of step_max among the fields.
 const STEP_MAX: usize = 4;
-/// The fields whose type is narrower than 32 bits, with what they cannot hold.
-const TOO_WIDE: [(usize, u32); 6] =
-    [(STEP_MAX, 256), (8, 256 + 40), (10, 2), (12, 2), (13, 2), (14, u32::MAX)];
 
 /// What is done to a call.
 pub type Wrong = (&'static str, fn(&mut Random, &mut Call));
 
 pub const WRONGS: [Wrong; 15] = [
-    ("a field outside", |random, call| put_outside(random, &mut call.context)),
+    ("fields outside", |random, call| outside::push(random, &mut call.context, &in_words())),
     ("iterations", |random, call| {
         call.options.iterations = random.any(&[ITERATIONS_MOST + 1, 10_000, 1 << 31, u32::MAX]);
     }),
@@ -53,12 +49,6 @@ pub const WRONGS: [Wrong; 15] = [
     ("step_max 0", |_, call| call.context[STEP_MAX] = 0),
     ("no record", |_, call| call.records = 0),
 ];
-
-fn put_outside(random: &mut Random, context: &mut ContextNumbers) {
-    let mut values = context_values(context);
-    values.extend(TOO_WIDE);
-    push_outside(random, context, &values);
-}
 
 fn below_zero(random: &mut Random) -> f32 {
     random.any(&[-LEAST, -1.0, f32::NEG_INFINITY])

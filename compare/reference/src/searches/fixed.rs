@@ -7,9 +7,10 @@ use super::generate::Case;
 use super::logarithms::{self, Logarithms, LOGARITHMS, LOGARITHM_MOST};
 use super::options::{Options, EXPLORATIONS, ITERATIONS_MOST, THRESHOLDS, WEIGHTINGS};
 use super::rust::Run;
+use crate::outside::{in_words, last_inside, one_or_two};
 use crate::random::Random;
 use crate::states::bench::{bench, expert, with_cp, with_durability};
-use crate::states::fields::set;
+use crate::states::fields::{self, context_numbers, set};
 use crate::thresholds::players;
 use crate::trees::{LEAST, NANS};
 use crafty::CraftContext;
@@ -27,6 +28,7 @@ pub fn cases() -> impl Iterator<Item = Case> {
     let runs = crafts().into_iter().flat_map(|context| whole(&context));
     runs.chain(past_index())
         .chain(few().into_iter().flat_map(|run| boundaries(&run)))
+        .chain(outside())
         .chain(before_work())
 }
 
@@ -126,6 +128,20 @@ fn raised(run: &Run) -> Vec<Call> {
         }
     }
     calls
+}
+
+/// Each field of the context at its limits, where it is searched, and outside, also every two.
+fn outside() -> Vec<Case> {
+    let context = context_numbers(&bench());
+    let run = |context: &CraftContext| Run::new(context, options(FEW), SEED);
+    let inside = last_inside(&context, &in_words()).into_iter().map(|numbers| {
+        let run = run(&fields::context(&numbers));
+        Case::new(Call::of(&run), &run)
+    });
+    let run = run(&bench());
+    let outside = one_or_two(&context, &in_words()).into_iter();
+    let outside = outside.map(|context| Case::new(Call { context, ..Call::of(&run) }, &run));
+    inside.chain(outside).collect()
 }
 
 /// Each wrong alone and with each other, and tables at their edges.

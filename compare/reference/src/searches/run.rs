@@ -36,6 +36,7 @@ pub fn compare(seed: u64, count: u64, host: &[&str]) -> io::Result<()> {
         records += case.call.records;
     })?;
     print!("{counts}");
+    counts.check_places(1);
     check(&counts, count);
     println!(
         "compare: {asked} calls equal, of {count} random searches, {records} records after them, seed {seed}"
@@ -63,8 +64,8 @@ fn rolled_out(result: &str) -> String {
 }
 
 fn count_case(counts: &mut Counts, case: &Case) {
-    let number = case.answer.found.number;
-    counts.answered(NAME, number as usize);
+    let Found { number, value, .. } = case.answer.found;
+    counts.answered(NAME, u64::from(number), value);
     match case.wrong {
         Some(TWO_WRONGS) => counts.met(TWO_WRONGS),
         Some(wrong) if number > 0 => counts.met(&refused(wrong)),

@@ -3,15 +3,17 @@
 use super::line::{Numbers, NUMBERS};
 use crate::actions::COMBOS;
 use crate::formulas::PERFECTIONS;
+use crate::limits::FIELDS;
 use crafty::{Action, ActionSet, Buffs, CraftContext, CraftState};
 
 /// The places of numbers in a line.
 pub const PROGRESS_TARGET: usize = 5;
+pub const STARTING_QUALITY: usize = 6;
 pub const QUALITY_TARGET: usize = 7;
 pub const DURABILITY_MAX: usize = 8;
 pub const CP_MAX: usize = 9;
 pub const POOL: usize = 11;
-pub const STEP: usize = 15;
+pub const STEP: usize = FIELDS;
 pub const PROGRESS: usize = 16;
 pub const QUALITY: usize = 17;
 pub const DURABILITY: usize = 18;
@@ -41,7 +43,7 @@ pub fn context(numbers: &[u32]) -> CraftContext {
         base_quality_factor: numbers[3],
         step_max: numbers[4] as u8,
         progress_target: numbers[PROGRESS_TARGET],
-        starting_quality: numbers[6],
+        starting_quality: numbers[STARTING_QUALITY],
         quality_target: numbers[QUALITY_TARGET],
         durability_max: numbers[DURABILITY_MAX] as i8,
         cp_max: numbers[CP_MAX],

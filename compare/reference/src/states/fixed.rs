@@ -5,6 +5,7 @@ use super::fields::{numbers, COMBO, LAST, NO_ACTION, STEP};
 use super::generate;
 use super::line::{Numbers, NUMBERS};
 use super::mode::Mode;
+use crate::outside::{around, in_record};
 use crafty::Action::{self, *};
 use crafty::{Buffs, CraftContext, CraftState};
 
@@ -55,7 +56,7 @@ const STATE_VALUES: [&[u32]; NUMBERS - 1 - STEP] = [
 ];
 
 pub fn states() -> Vec<Numbers> {
-    let lists = [limits(), combos(), bench_ways(), zeros(), both_outside()];
+    let lists = [limits(), fields(), combos(), bench_ways(), zeros(), both_outside()];
     let random = generate::states(SEED, RANDOM);
     lists.into_iter().flatten().chain(random).collect()
 }
@@ -92,6 +93,11 @@ fn limits() -> Vec<Numbers> {
     let expert = CraftContext { is_expert: true, ..bench() };
     let middles = [numbers(&CraftState::_new(&expert)), numbers(&busy(&context))];
     middles.iter().flat_map(varied).collect()
+}
+
+/// A craft's middle, which any context takes, with each field of the context at its limits, and every two outside.
+fn fields() -> Vec<Numbers> {
+    around(&numbers(&busy(&bench())), &in_record())
 }
 
 fn varied(middle: &Numbers) -> Vec<Numbers> {

@@ -2,9 +2,10 @@
 
 use super::fields::numbers;
 use super::line::Numbers;
-use super::outside::{push_outside, values};
+use super::out_of_range;
 use super::random_context;
 use super::random_state;
+use crate::outside::{self, in_record};
 use crate::random::Random;
 
 /// States by their number in a run.
@@ -20,9 +21,10 @@ pub fn state(random: &mut Random) -> Numbers {
         random_state::made_up(random, &context)
     };
     let mut numbers = numbers(&state);
-    if random.one_in(64) {
-        let outside = values(&numbers);
-        push_outside(random, &mut numbers, &outside);
+    match random.below(128) {
+        0 => outside::push(random, &mut numbers, &in_record()),
+        1 => out_of_range::push(random, &mut numbers),
+        _ => {}
     }
     numbers
 }

@@ -1,8 +1,8 @@
-//! Refusals 1 and 2, which the Rust does not have: the limits of the scope's paper.
+//! Contexts and states inside their limits, or refusals 1 and 2, which the Rust does not have.
 
-use super::fields::{buff_timers, context, state, LAST, NO_ACTION};
+use super::fields::{buff_timers, context, context_numbers, state, LAST, NO_ACTION};
 use super::line::Numbers;
-use crate::contexts;
+use crate::limits::{self, CONTEXT};
 use crate::refusal::Refusal;
 use crafty::{Action, CraftContext, CraftState};
 
@@ -10,11 +10,10 @@ pub const STATE_AMOUNT_MOST: u32 = 16_777_216;
 pub const DURABILITY_LEAST: i8 = -19;
 pub const BUFFS_MOST: [u8; 8] = [10, 4, 8, 8, 3, 4, 4, 5];
 
+/// Of a record, whose numbers fit the types of their fields.
 pub fn checked_context(numbers: &[u32]) -> Result<CraftContext, Refusal> {
     let context = context(numbers);
-    if !contexts::is_inside(&context) {
-        return Err(Refusal::Outside);
-    }
+    limits::check(&context_numbers(&context), &CONTEXT, 0)?;
     Ok(context)
 }
 

@@ -9,7 +9,7 @@ mod generate;
 pub mod limits;
 pub mod line;
 pub mod mode;
-pub mod outside;
+mod out_of_range;
 mod own_rules;
 pub mod random_context;
 pub mod random_state;

@@ -4,6 +4,8 @@ use super::answer::told;
 use super::call::{Call, Function};
 use super::generate::{line, list_of, Case};
 use super::lists::INPUT_MOST;
+use crate::limits::FIELDS;
+use crate::outside::{around, in_line, in_words, with};
 use crate::replays;
 use crate::states::bench::{bench, crafts};
 use crate::states::fields::{context_numbers, ContextNumbers};
@@ -26,7 +28,16 @@ pub fn cases() -> impl Iterator<Item = Case> {
     let lists = lists().into_iter().flat_map(|list| {
         [Call::new(Function::WriteList, &list), Call::new(Function::MacroTime, &list)]
     });
-    texts.chain(read).chain(lists).chain(replays()).flat_map(in_rooms)
+    texts.chain(read).chain(lists).chain(replays()).flat_map(in_rooms).chain([first_field()])
+}
+
+/// A factor above its limit before a number of steps that is no byte: the place is the factor's.
+fn first_field() -> Case {
+    let text = line(&with(&example(), &[(2, 200_071), (4, 256)]));
+    let call = Call::new(Function::ReplayText, text.as_bytes());
+    let case = Case::new(call.clone(), &told(&call), 0);
+    assert_eq!((case.answer.number, case.answer.value), (1, 2));
+    case
 }
 
 /// Of a call that needs some room: none, one number less than it needs, just enough, and more.
@@ -46,6 +57,7 @@ fn texts() -> Vec<Vec<u8>> {
     let mut texts: Vec<String> = shapes().into_iter().map(|line| line + LIST).collect();
     texts.extend(shapes());
     texts.extend(wide_values());
+    texts.extend(fields());
     texts.extend(crafts().into_iter().map(|(context, _, list)| {
         let names: Vec<&str> = list.iter().map(Action::name).collect();
         line(&context_numbers(&context)) + &names.join(" ")
@@ -105,6 +117,17 @@ fn wide_values() -> Vec<String> {
         }
     }
     texts
+}
+
+/// Each number at its limits, and every two outside.
+fn fields() -> Vec<String> {
+    let lines = around(&example(), &in_line());
+    lines.iter().map(|numbers| line(numbers) + LIST).collect()
+}
+
+fn example() -> [u64; FIELDS] {
+    let numbers = LINE.split(' ').map(|number| number.parse().expect("a number"));
+    numbers.collect::<Vec<u64>>().try_into().expect("fifteen numbers")
 }
 
 /// What is refused for two reasons, by the number that comes first.
@@ -191,7 +214,7 @@ fn replays() -> Vec<Call> {
     let fixed = replays::fixed()
         .into_iter()
         .map(|replay| Call::replay(replay.context, replay.mode, &list_of(&replay)));
-    fixed.chain(wide_contexts()).collect()
+    fixed.chain(wide_contexts()).chain(outside_contexts()).collect()
 }
 
 /// Numbers that do not fit the type of their field.
@@ -204,4 +227,12 @@ fn wide_contexts() -> impl Iterator<Item = Call> {
             Call::replay(context, Mode::Strict, &[Action::BasicTouch as u8])
         })
     })
+}
+
+/// Each number at its limits, and every two outside.
+fn outside_contexts() -> impl Iterator<Item = Call> {
+    let contexts = around(&context_numbers(&bench()), &in_words());
+    contexts
+        .into_iter()
+        .map(|context| Call::replay(context, Mode::Plain, &[Action::BasicTouch as u8]))
 }

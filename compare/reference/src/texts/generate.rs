@@ -6,7 +6,6 @@ use super::damage::damage;
 use crate::random::Random;
 use crate::refusal::Refusal;
 use crate::replays::{self, Replay};
-use crate::states::fields::ContextNumbers;
 use crafty::Action;
 
 /// A call, what it must answer in a room, and what became of its text, whole or damaged.
@@ -96,13 +95,13 @@ fn room(random: &mut Random, function: Function, needed: usize) -> usize {
 }
 
 /// The first line of the replay program's input.
-pub fn line(context: &ContextNumbers) -> String {
-    let numbers: Vec<String> = context.iter().map(u32::to_string).collect();
+pub fn line(context: &[impl ToString]) -> String {
+    let numbers: Vec<String> = context.iter().map(ToString::to_string).collect();
     numbers.join(" ") + "\n"
 }
 
 /// The replay program's input.
-pub fn text_of(context: &ContextNumbers, words: &str) -> Vec<u8> {
+pub fn text_of(context: &[impl ToString], words: &str) -> Vec<u8> {
     (line(context) + words).into_bytes()
 }
 

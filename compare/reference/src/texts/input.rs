@@ -1,23 +1,12 @@
 //! A model of the replay program's input, from the scope's paper: its size, its first line and its words.
 
 use super::lists::{words, INPUT_MOST};
+use crate::limits::{self, CONTEXT, FIELDS};
 use crate::refusal::Refusal;
-use crate::states::fields::{ContextNumbers, STEP};
-use crate::states::limits::checked_context;
+use crate::states::fields;
 use crafty::{Action, CraftContext};
 
 const DIGITS_MOST: usize = 10;
-/// What the type of each field holds: a byte of steps, a durability with a sign, four flags.
-const FIELDS_MOST: [u64; STEP] = {
-    let mut most = [u32::MAX as u64; STEP];
-    most[4] = u8::MAX as u64;
-    most[8] = i8::MAX as u64;
-    most[10] = 1;
-    most[12] = 1;
-    most[13] = 1;
-    most[14] = 1;
-    most
-};
 
 pub struct Input {
     pub context: CraftContext,
@@ -36,7 +25,7 @@ pub fn read(input: &[u8]) -> Result<Input, Refusal> {
 }
 
 /// None unless the line has the shape of fifteen numbers.
-fn line(line: &[u8]) -> Option<[u64; STEP]> {
+fn line(line: &[u8]) -> Option<[u64; FIELDS]> {
     let runs: Option<Vec<u64>> = line.split(|byte| *byte == b' ').map(number).collect();
     runs?.try_into().ok()
 }
@@ -48,12 +37,8 @@ fn number(run: &[u8]) -> Option<u64> {
     std::str::from_utf8(run).ok()?.parse().ok()
 }
 
-/// Numbers that fit the types of their fields, and then the context's limits.
-pub fn context(numbers: &[u64; STEP]) -> Result<CraftContext, Refusal> {
-    if numbers.iter().zip(FIELDS_MOST).any(|(number, most)| *number > most) {
-        return Err(Refusal::Outside);
-    }
-    let mut fields = ContextNumbers::default();
-    fields.iter_mut().zip(numbers).for_each(|(field, number)| *field = *number as u32);
-    checked_context(&fields)
+/// Of numbers that may be too large for their fields.
+pub fn context(numbers: &[u64; FIELDS]) -> Result<CraftContext, Refusal> {
+    limits::check(numbers, &CONTEXT, 0)?;
+    Ok(fields::context(&numbers.map(|number| number as u32)))
 }

@@ -16,12 +16,14 @@ pub fn compare(seed: u64, count: u64, host: &[&str]) -> io::Result<()> {
         count_case(&mut counts, case);
         bytes += case.answer.room.len();
     })?;
-    println!("{counts}compare: {asked} calls equal, {bytes} bytes of room, seed {seed}");
+    print!("{counts}");
+    counts.check_places(1);
+    println!("compare: {asked} calls equal, {bytes} bytes of room, seed {seed}");
     timing::print(host)
 }
 
 fn count_case(counts: &mut Counts, case: &Case) {
-    counts.answered(case.call.function.name(), case.answer.number as usize);
+    counts.answered(case.call.function.name(), case.answer.number, case.answer.value);
     if let Some(met) = &case.met {
         counts.met(&format!("text, {met}"));
     }

@@ -23,13 +23,14 @@ pub fn compare(seed: u64, count: u64, host: &[&str]) -> io::Result<()> {
         records += case.answer.records.len();
     })?;
     print!("{counts}{ways}");
+    counts.check_places(1);
     ways.check();
     println!("compare: {asked} calls equal, {records} records after them, seed {seed}");
     Ok(())
 }
 
 fn count_case(counts: &mut Counts, case: &Case) {
-    counts.answered(case.call.function.name(), case.answer.number as usize);
+    counts.answered(case.call.function.name(), case.answer.number, case.answer.value);
     if let Some(met) = &case.met {
         counts.met(met);
     }
