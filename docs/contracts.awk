@@ -10,6 +10,11 @@ BEGIN {
     split("OneAnswer OneOutcome OneOutcomes", one, " ")
     split("Refuses RefusesWhole RefusesInPart", total, " ")
     split("TellsFirst TellsFirstBeside TellsFirstBesides", outside, " ")
+    # the fields by whose order places count
+    listing["setLimits"] = "Rattle.action_set.specs.Sets"
+    listing["contextLimits"] = "Rattle.craft_context.specs.Limits"
+    listing["builderLimits"] = "Rattle.craft_context.specs.Build"
+    listing["numberLimits"] = "Rattle.context_line.specs.Fields"
 }
 FILENAME ~ /imports$/ { module[$1, $2] = $3; next }
 FILENAME ~ /functions$/ { contract[$2] = $4; source[$2] = $5; next }
@@ -30,7 +35,15 @@ function check_entry(entry, stated, numbers,   form, lent, title, place) {
     check_law(entry, "one-" title, one[lents + 1], form)
     if ((form ~ /^r ≡ /) != (numbers == "")) print entry ": a statement has refusals, and an equation has none"
     else if (numbers != "") check_refusals(entry, "total-" title, form, numbers, lent)
-    if (", " numbers "," ~ /, 1,/) check_place(entry, "outside-" title, form)
+    if (", " numbers "," ~ /, 1,/) check_place(entry, "outside-" title, form, told_by("total-" title))
+}
+
+# The kind of answer, or what is told of it, of a law of the refusals.
+function told_by(law,   text) {
+    text = past_variables(type[law])
+    sub(/^[A-Za-z]+ /, "", text)
+    sub(/ .*/, "", text)
+    return text
 }
 
 function name_of(form) {
@@ -157,11 +170,27 @@ function check_refusals(entry, law, form, numbers, lent,   text, said, name, k) 
     if (lent_at != lent) print entry ": its law " law " is not of what is lent"
 }
 
-# The law of the place has in between what is told, and the fields, which stand on variables of the statement.
-function check_place(entry, law, form,   text) {
+# The law of the place has in between what is told, by the same kind as the law of the refusals, and fields of one of the four lists, whose variables the
+# proof holds to the statement's.
+function check_place(entry, law, form, kind,   text, fields) {
     text = opened(entry, law, outside[lents + 1])
-    sub(/^(\([a-z]+ \.told\)|[a-z]+Told) \([a-z]+Limits( [a-z]+)+\) /, "", text) || sub(/^\([a-z]+ \.told\) \(numberLimits \(numbersOf \(lineIn input\)\)\) /, "", text)
-    if (text != "") check_statement(entry, law, text, form)
+    if (text == "") return
+    if (!starts(text, lents == 2 ? kind " (" : "(" kind " .told) (") || !same_import(law, "total-" substr(law, 9), kind)) {
+        print entry ": its law " law " is not of what is told by " kind
+        return
+    }
+    sub(/^(\([a-z]+ \.told\)|[A-Za-z]+) \(/, "", text)
+    fields = text
+    sub(/ .*/, "", fields)
+    if (!(fields in listing) || module[file[law], fields] != listing[fields]) print entry ": its law " law " is not of the fields of a record"
+    sub(/^[^()]*(\([^()]*(\([^()]*\))?\))?\) /, "", text)
+    check_statement(entry, law, text, form)
+}
+
+function starts(text, with) { return substr(text, 1, length(with)) == with }
+
+function same_import(law, other, name) {
+    return module[file[law], name] != "" && module[file[law], name] == module[file[other], name]
 }
 
 # What stands behind the demand in a law's type; empty, and a fault, where the law is none of it.

@@ -84,7 +84,7 @@ impl fmt::Display for Refusal {
     fn fmt(&self, out: &mut fmt::Formatter) -> fmt::Result {
         match self {
             Refusal::OutsideLimits { place } => {
-                write!(out, "the number at place {place} is outside its limit")
+                write!(out, "field {place} of the context, or the set, is outside its limit")
             }
             Refusal::UnknownAction { place } => {
                 write!(out, "no action has the number at place {place}")

@@ -121,9 +121,9 @@ pub fn logarithms() -> [f32; LOGARITHMS] {
 ///
 /// A draw n picks, of the moves that are left, the one with n of them above it: 0 is the highest. It is below their number.
 ///
-/// Refused by 1, 21 and 6 (1 record is needed), and then nothing is written. Then an iteration is refused by 19, 20, and 6
-/// where the records don't suffice for all that it stores: it stores nothing and its draws are not used, but those before it
-/// stand. Last by 6 where the path has no room. A refusal writes no path.
+/// Refused by 1 (the place of the first field outside), 21 and 6 (1 record is needed), and then nothing is written. Then an
+/// iteration is refused by 19, 20, and 6 where the records don't suffice for all that it stores: it stores nothing and its
+/// draws are not used, but those before it stand. Last by 6 where the path has no room. A refusal writes no path.
 pub fn search(
     context: &Context,
     options: &SearchOptions,

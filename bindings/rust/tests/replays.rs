@@ -123,7 +123,7 @@ fn refuses() {
     let outside = Context { durability_max: 98, ..bench() };
     let refusal = replay(&outside, Mode::Plain, &[31]).unwrap_err();
     assert_eq!((refusal, refusal.number()), (Refusal::OutsideLimits { place: 8 }, 1));
-    assert_eq!(refusal.to_string(), "the number at place 8 is outside its limit");
+    assert_eq!(refusal.to_string(), "field 8 of the context, or the set, is outside its limit");
     let unknown = Refusal::UnknownAction { place: 1 };
     assert_eq!(replay(&bench(), Mode::Plain, &[0, 31, 255]), Err(unknown));
 }

@@ -14,12 +14,16 @@ use Rattle.action.specs.Known.{actions, actionTest}
 abbrev pub SetIn : ℕ → Type 0
 SetIn s = s < 2 ^ actions
 
--- refusal 1: bit 31 of a set is clear. Document 02, E1: its place is "0 for a set", which is one field
+-- bit 31 of a set is clear
+abbrev pub isSet : ℕ → Bool
+isSet s = ltb s (2 ^ actions)
+
+-- refusal 1 of a set alone, which is one field. Document 02, E1: its place is "0 for a set"
 abbrev pub setLimits : ℕ → List Bool
-setLimits s = ltb s (2 ^ actions) ∷ []
+setLimits s = isSet s ∷ []
 
 abbrev pub setTest : ℕ → Test
-setTest s = limitTest 0 (ltb s (2 ^ actions))
+setTest s = limitTest 0 (isSet s)
 
 -- refusals 1 and 3, of a set and an action
 abbrev pub memberTests : ℕ → ℕ → List Test

@@ -11,7 +11,7 @@ use Rattle.refusal.specs.Judge.{Test}
 use Rattle.refusal.specs.Limits.{limitTests}
 use Rattle.craft_context.specs.declared.context.CraftContext.{CraftContext}
 use Rattle.action.specs.Limits.{factorMost, targetMost}
-use Rattle.action_set.specs.Sets.{setTest}
+use Rattle.action_set.specs.Sets.{isSet}
 use Rattle.craft_context.specs.Limits.{durable}
 
 -- the greatest number of each type that a field has and its limit does not narrow: u32, u8
@@ -32,9 +32,6 @@ upTo most n = leb n most
 abbrev pub takesDurability : ℕ → Bool
 takesDurability n = durable (pos n)
 
-abbrev pub takesSet : ℕ → Bool
-takesSet s = setTest s .passed
-
 -- field by field: two levels, two factors, step_max; progress target, starting quality, quality target; durability, points; is_expert, the pool, and
 -- the three other flags
 abbrev pub takes : List (ℕ → Bool)
@@ -50,7 +47,7 @@ takes =
     takesDurability ∷
     upTo targetMost ∷
     upTo flagSet ∷
-    takesSet ∷
+    isSet ∷
     upTo flagSet ∷
     upTo flagSet ∷
     upTo flagSet ∷

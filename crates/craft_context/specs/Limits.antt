@@ -11,7 +11,7 @@ use Rattle.refusal.specs.Judge.{Test, Checks}
 use Rattle.refusal.specs.declared.Checked.{Checked}
 use Rattle.refusal.specs.Limits.{free, limitTests}
 use Rattle.action.specs.Limits.{factorMost, targetMost}
-use Rattle.action_set.specs.Sets.{SetIn, setTest}
+use Rattle.action_set.specs.Sets.{SetIn, isSet}
 use Rattle.craft_context.specs.declared.context.CraftContext.{CraftContext}
 use Rattle.craft_context.specs.declared.sheet.Player.{Player}
 use Rattle.craft_context.specs.declared.sheet.Recipe.{Recipe}
@@ -53,7 +53,7 @@ contextLimits c =
     durable (c .«durability_max») ∷
     leb (c .«cp_max») targetMost ∷
     free (c .«is_expert») ∷
-    setTest (c .«action_pool» .0) .passed ∷
+    isSet (c .«action_pool» .0) ∷
     free (c .«player_is_specialist») ∷
     free (c .«use_manipulation») ∷
     free (c .«use_delineation») ∷
@@ -65,7 +65,7 @@ contextTests c = limitTests (contextLimits c)
 abbrev pub ChecksContext : CraftContext → Checked → Type 0
 ChecksContext c r = Checks (contextTests c) r
 
--- ---- of what a context is built from, in its order; what only the context limits is tested there
+-- ---- the fields of what a context is built from, in their order; what only the context limits is tested there
 
 abbrev pub playerLimits : Player → List Bool
 playerLimits player =

@@ -1,4 +1,5 @@
 -- Document 01, What comes back on refusal: the number, and "also returned" the value beside it, as every function of include/crafty.h answers them.
+-- Document 02, E1: 1 comes with a value too.
 -- Assumes nothing.
 use mathlib.Core.Path.{_≡_, refl}
 use mathlib.Core.Bool.{Bool, cond, _||_}

@@ -74,9 +74,15 @@ RefusesWhole {A} {B} kind numbers lent statement =
 
 -- ---- by which place
 
--- every answer that is told by 1 is told with the place of the first of these fields outside its limit; and beside what is lent
+-- a report that tells the place of the first of these fields outside its limit
+pub record TellsPlace (fields : List Bool) (report : Report) : Type 0 where
+  pub place : ℕ
+  pub told : report ≡ reportOf (OutsideLimits place)
+  pub first : FirstOutside fields place
+
+-- every answer that is told by 1 tells it; and beside what is lent
 abbrev pub TellsFirst : {A : Type 0} → (A → Report) → List Bool → (A → Type 0) → Type 0
-TellsFirst {A} told fields statement = (r : A) (place : ℕ) → statement r → told r ≡ reportOf (OutsideLimits place) → FirstOutside fields place
+TellsFirst {A} told fields statement = (r : A) → statement r → told r .0 ≡ 1 → TellsPlace fields (told r)
 
 abbrev pub TellsFirstBeside : {A B : Type 0} → (A → Report) → List Bool → (A → B → Type 0) → Type 0
 TellsFirstBeside {A} {B} told fields statement = (after : B) → TellsFirst told fields (λ (r : A). statement r after)

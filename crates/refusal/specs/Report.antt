@@ -1,5 +1,5 @@
--- Document 01, 'What comes back on refusal': the table's numbers, and what is also returned. Document 02, E7: "19 draws used up, 20 draw not
--- below the size, 21" for a search whose logarithms or options are outside their limits.
+-- Document 01, 'What comes back on refusal': the table's numbers, and what is also returned. Document 02, E1: "1 now has a place"; E7: "19 draws used up,
+-- 20 draw not below the size, 21" for a search whose logarithms or options are outside their limits.
 -- Assumes nothing.
 use Prim.Native.Nat.{ℕ}
 use Rattle.refusal.specs.declared.Refusal.{Refusal}

@@ -7,7 +7,7 @@ use Prim.Native.Nat.{ℕ}
 use lib.Dec.{eqb, ltb}
 use lib.Ieee.{Float, nan, inf, fin, neg, le, eq, toUnsigned}
 use Rattle.action.specs.Known.{actions, known}
-use Rattle.action_set.specs.Sets.{setTest}
+use Rattle.action_set.specs.Sets.{isSet}
 use Rattle.tree.specs.declared.node.Node.{Node}
 use Rattle.tree.specs.Node.{plusZero, visitsMost}
 use Rattle.laws.specs.Floats.{float, one}
@@ -36,10 +36,6 @@ minus (fin s m e) = s
 -- max_score: from +0 to 1, minus zero excluded
 unfoldable pub isMaximum : Float → Bool
 isMaximum score = (le plusZero score && le score one) && not (minus score)
-
--- unused moves: a set, whatever moves they are
-abbrev pub isSet : ℕ → Bool
-isSet unused = setTest unused .passed
 
 unfoldable pub soundAt : ℕ → Node → Bool
 soundAt k n =

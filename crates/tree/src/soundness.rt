@@ -1,6 +1,7 @@
 // Whether one record is sound at its number.
 ghost use mathlib.Core.Path.{_≡_};
-ghost use Rattle.tree.specs.Sound.{placed, isCount, within, isMaximum, isSet, soundAt};
+ghost use Rattle.action_set.specs.Sets.{isSet};
+ghost use Rattle.tree.specs.Sound.{placed, isCount, within, isMaximum, soundAt};
 use super::node::Node;
 use action::ACTIONS;
 use action_set::ActionSet;

@@ -17,9 +17,10 @@ use Rattle.refusal.specs.Limits.{limitTests}
 use Rattle.refusal.specs.laws.Limits.{all-inside}
 use Rattle.action.specs.Known.{actions}
 use Rattle.action.specs.Limits.{factorMost, targetMost}
+use Rattle.action_set.specs.Sets.{isSet}
 use Rattle.craft_context.specs.Limits.{durabilityMost, ContextIn}
 use Rattle.context_line.specs.Shape.{fields}
-use Rattle.context_line.specs.Fields.{wordMost, byteMost, flagSet, upTo, takesDurability, takesSet, takes, takenFrom, numberLimits, numberTests, contextOf}
+use Rattle.context_line.specs.Fields.{wordMost, byteMost, flagSet, upTo, takesDurability, takes, takenFrom, numberLimits, numberTests, contextOf}
 use Rattle.context_line.specs.inner.Fields.{wordOf}
 
 -- ---- THE law of the tests: all pass exactly where the context is inside its limits, and the fields without one take their numbers
@@ -112,7 +113,7 @@ others-narrow =
     let factor = up-to factorMost (omega arith) in
     let target = up-to targetMost (omega arith) in
     let flag = up-to flagSet (omega arith) in
-    let set : Narrow takesSet = λ s l. le-ltb s (2 ^ actions) (omega arith) in
+    let set : Narrow isSet = λ s l. le-ltb s (2 ^ actions) (omega arith) in
     (factor, (factor, (up-to byteMost (omega arith), (target, (target, (target, (lasting, (target, (flag, (set, (flag, (flag, (flag, tt)))))))))))))
 
 narrow-same : (field : ℕ → Bool) → Narrow field → (n : ℕ) → field (wordOf n) ≡ field n

@@ -1,4 +1,4 @@
--- For the contracts of inner functions: the tests of what a context is built from, in their two parts.
+-- For the contracts of inner functions: the tests of player and recipe, and the place of the built context's first field.
 -- Assumes nothing.
 use mathlib.Core.Path.{_≡_}
 use mathlib.Core.List.{List, _++_}

@@ -68,8 +68,8 @@ pub outside-ActionSet-highest : (bits : ℕ) → TellsFirst (highest .told) (set
 outside-ActionSet-highest bits = tells-first [] (setLimits bits) [] refl refl
 
 pub outside-ActionSet-members : (bits : ℕ) (out : List ℕ) → TellsFirstBeside (list .told) (setLimits bits) (Members bits out)
-outside-ActionSet-members bits out after r place s =
-    tells-first [] (setLimits bits) (roomTest (length out) (sizeOf bits) ∷ []) refl refl r place (s .says)
+outside-ActionSet-members bits out after r s =
+    tells-first [] (setLimits bits) (roomTest (length out) (sizeOf bits) ∷ []) refl refl r (s .says)
 
 -- ---- contexts
 
@@ -104,21 +104,21 @@ outside-step context state mode n =
 
 pub outside-result : (context : CraftContext) (state : CraftState) (mode : Mode)
     → TellsFirst (resulted .told) (contextLimits context) (HasResult context state mode)
-outside-result context state mode r place s = given-first context state r place (s .says)
+outside-result context state mode r s = given-first context state r (s .says)
 
 pub outside-score : (context : CraftContext) (state : CraftState) → TellsFirst (scored .told) (contextLimits context) (HasScore context state)
-outside-score context state r place s = given-first context state r place (s .0)
+outside-score context state r s = given-first context state r (s .0)
 
 pub outside-display : (context : CraftContext) (state : CraftState) (out : List ℕ)
     → TellsFirstBeside (written .told) (contextLimits context) (HasLine context state out)
-outside-display context state out after r place s =
+outside-display context state out after r s =
     let room = roomTest (length out) (length (displayOf context state)) in
-    tells-first [] (contextLimits context) (stateTest context state ∷ room ∷ []) refl refl r place (s .says)
+    tells-first [] (contextLimits context) (stateTest context state ∷ room ∷ []) refl refl r (s .says)
 
 -- ---- replays
 
 pub outside-replay : (context : CraftContext) (mode : Mode) (list : List ℕ) → TellsFirst (replayed .told) (contextLimits context) (Replays context mode list)
-outside-replay context mode list r place s = tells-first [] (contextLimits context) (listTest list ∷ []) refl refl r place (s .says)
+outside-replay context mode list r s = tells-first [] (contextLimits context) (listTest list ∷ []) refl refl r (s .says)
 
 -- an input of the program, for an entry of any kind that has so much room
 pub text-first : (input : List ℕ) (room needed : ℕ) {A : Type 0} {kind : Kind A} {answer : A}
@@ -128,7 +128,7 @@ text-first input room needed =
     (wordsTest (lineEnd input + 1) (wordsIn input) ∷ roomTest room needed ∷ []) refl refl
 
 pub outside-replay-text : (input out : List ℕ) → TellsFirstBeside (written .told) (numberLimits (numbersOf (lineIn input))) (ReplaysText input out)
-outside-replay-text input out after r place s = text-first input (length out) (length (replayTextOf input)) r place (s .says)
+outside-replay-text input out after r s = text-first input (length out) (length (replayTextOf input)) r (s .says)
 
 -- ---- the tree, which is given sets, and the search; for an entry of any kind
 
@@ -137,7 +137,7 @@ pub planted-first : (nodes : List Node) (unused : ℕ) {A : Type 0} {kind : Kind
 planted-first nodes unused = tells-first [] (setLimits unused) (roomTest (length nodes) newCount ∷ []) refl refl
 
 pub outside-plant : (nodes : List Node) (unused : ℕ) → TellsFirstBeside (planted .told) (setLimits unused) (Plants nodes unused)
-outside-plant nodes unused after r place s = planted-first nodes unused r place (s .says)
+outside-plant nodes unused after r s = planted-first nodes unused r (s .says)
 
 pub inserted-first : (nodes : List Node) (count parent action unused : ℕ) {A : Type 0} {kind : Kind A} {answer : A}
     → TellsFirst (kind .told) (setLimits unused) (Says kind (insertTests nodes count parent action unused) answer)
@@ -147,7 +147,7 @@ inserted-first nodes count parent action unused =
 
 pub outside-insert : (nodes : List Node) (count parent action unused : ℕ)
     → TellsFirstBeside (inserted .told) (setLimits unused) (Inserts nodes count parent action unused)
-outside-insert nodes count parent action unused after r place s = inserted-first nodes count parent action unused r place (s .says)
+outside-insert nodes count parent action unused after r s = inserted-first nodes count parent action unused r (s .says)
 
 pub outside-search : (context : CraftContext) (options : SearchOptions) (logs : List Float) (draws : List ℕ) (nodes : List Node) (out : List ℕ)
     → TellsFirstBesides searchedTold (contextLimits context) (Searches context options logs draws nodes out)

@@ -27,17 +27,17 @@ use Rattle.crafty_c.specs.laws.Searches.{found-first}
 -- values are the fifteen numbers of the context
 pub outside-crafty-replay : (values : List ℕ) (mode : Mode) (list out : List ℕ)
     → TellsFirstBeside (answered .told) (numberLimits values) (TellsNumbers values mode list out)
-outside-crafty-replay values mode list out after r place s = tells-first [] (numberLimits values) (reportTests list out) refl refl r place (s .says)
+outside-crafty-replay values mode list out after r s = tells-first [] (numberLimits values) (reportTests list out) refl refl r (s .says)
 
 pub outside-crafty-replay-text : (input out : List ℕ) → TellsFirstBeside (answered .told) (numberLimits (numbersOf (lineIn input))) (TellsReplay input out)
-outside-crafty-replay-text input out after r place s = text-first input (length out) (length (replayTextOf input)) r place (s .says)
+outside-crafty-replay-text input out after r s = text-first input (length out) (length (replayTextOf input)) r (s .says)
 
 pub outside-crafty-tree-new : (nodes : List Node) (unused : ℕ) → TellsFirstBeside (answered .told) (setLimits unused) (TellsPlanted nodes unused)
-outside-crafty-tree-new nodes unused after r place s = planted-first nodes unused r place (s .says)
+outside-crafty-tree-new nodes unused after r s = planted-first nodes unused r (s .says)
 
 pub outside-crafty-tree-insert : (nodes : List Node) (count parent action unused : ℕ)
     → TellsFirstBeside (answered .told) (setLimits unused) (TellsInserted nodes count parent action unused)
-outside-crafty-tree-insert nodes count parent action unused after r place s = inserted-first nodes count parent action unused r place (s .says)
+outside-crafty-tree-insert nodes count parent action unused after r s = inserted-first nodes count parent action unused r (s .says)
 
 pub outside-crafty-search : (values : List ℕ) (options : SearchOptions) (logs : List Float) (draws : List ℕ) (nodes : List Node) (out : List ℕ)
     → TellsFirstBesides foundTold (numberLimits values) (TellsSearched values options logs draws nodes out)

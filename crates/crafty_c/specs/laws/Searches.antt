@@ -17,7 +17,7 @@ use Rattle.refusal.specs.Demands.{numberOf, Among}
 use Rattle.refusal.specs.Limits.{FirstOutside}
 use Rattle.refusal.specs.laws.Judge.{judged-passed, judged-refused, checks, checks-on-by}
 use Rattle.refusal.specs.laws.Demands.{number-among}
-use Rattle.refusal.specs.laws.Limits.{outside-same, refused-outside}
+use Rattle.refusal.specs.laws.Limits.{refused-outside}
 use Rattle.craft_context.specs.declared.context.CraftContext.{CraftContext}
 use Rattle.craft_context.specs.laws.Limits.{context-passes}
 use Rattle.context_line.specs.declared.fields.Read.the-variants as R
@@ -157,9 +157,6 @@ outside-zero values o logs draws nodes out {r} s one = by (checksOf (numberTests
 
 pub found-first : (values : List ℕ) (o : SearchOptions) (logs : List Float) (draws : List ℕ) (nodes : List Node) (out : List ℕ)
     → TellsFirstBesides foundTold (numberLimits values) (TellsSearched values o logs draws nodes out)
-found-first values o logs draws nodes out after written r place s one =
-    let zero = outside-zero values o logs draws nodes out s (ap (λ (report : Report). report .0) one) in
-    let told : reportOf (OutsideLimits (r .value)) ≡ reportOf (OutsideLimits place) =
-    sym (ap foundTold (zero .1)) ∙ one
-    in
-    subst (FirstOutside (numberLimits values)) (outside-same told) (zero .0)
+found-first values o logs draws nodes out after written r s one =
+    let zero = outside-zero values o logs draws nodes out s one in
+    record { place = r .value; told = ap foundTold (zero .1); first = zero .0 }

@@ -15,7 +15,7 @@ use Rattle.refusal.specs.declared.Checked.{Checked}
 use Rattle.refusal.specs.declared.Checked.the-variants.{Passed, Refused}
 use Rattle.refusal.specs.Report.{reportOf, success}
 use Rattle.refusal.specs.Judge.{Test, judged, checksOf, Kind, Says}
-use Rattle.refusal.specs.Demands.{numberOf, TellsFirst}
+use Rattle.refusal.specs.Demands.{numberOf, TellsPlace, TellsFirst}
 use Rattle.refusal.specs.Limits.{limitsFrom, limitTests, FirstOutside}
 use Rattle.refusal.specs.laws.Judge.{refused-passed, stops, passes, judged-passed, judged-refused, shown}
 
@@ -47,9 +47,6 @@ met first k (true ∷ more) {x} e = after (met first (k + 1) more e)
         earlier zero h = refl
         earlier (suc j) h = m .there .before j (omega arith)
 
-pub outside-same : {p q : ℕ} → reportOf (OutsideLimits p) ≡ reportOf (OutsideLimits q) → p ≡ q
-outside-same {p} {q} e = let value : Value p ≡ Value q = ap (λ (report : Report). report .1) e in cc
-
 -- so they refuse by 1 alone
 pub record Outside (fields : List Bool) (x : Refusal) : Type 0 where
   pub place : ℕ
@@ -61,15 +58,18 @@ refused-outside fields e =
     let m = met 0 0 fields e in
     record { place = m .further; told = m .told ∙ ap OutsideLimits (omega arith); first = m .there }
 
--- told by 1, with the place
-pub outside-place : (fields : List Bool) {x : Refusal} {place : ℕ} → Refused x ≡ checksOf (limitTests fields) → reportOf x ≡ reportOf (OutsideLimits place)
-    → FirstOutside fields place
-outside-place fields e told =
-    let o = refused-outside fields e in
-    subst (FirstOutside fields) (outside-same (ap reportOf (sym (o .told)) ∙ told)) (o .first)
-
 pub first-outside : (fields : List Bool) {place : ℕ} → Refused (OutsideLimits place) ≡ checksOf (limitTests fields) → FirstOutside fields place
-first-outside fields e = outside-place fields e refl
+first-outside fields {place} e =
+    let o = refused-outside fields e in
+    let value : Value (o .place) ≡ Value place = sym (ap (λ (x : Refusal). reportOf x .1) (o .told)) in
+    let same : o .place ≡ place = cc in
+    subst (FirstOutside fields) same (o .first)
+
+-- and so does a report of what they refuse
+pub outside-told : (fields : List Bool) {x : Refusal} {report : Report} → Refused x ≡ checksOf (limitTests fields) → report ≡ reportOf x → TellsPlace fields report
+outside-told fields e told =
+    let o = refused-outside fields e in
+    record { place = o .place; told = told ∙ ap reportOf (o .told); first = o .first }
 
 true-false : true ≡ false → ⊥
 true-false e = let z : _≡_ {A = ℕ} 0 1 = cc in omega arith
@@ -121,23 +121,27 @@ others-refuse (t ∷ more) o {x} e one = by (t .passed) (eqb (numberOf (t .other
 module _ {A : Type 0} {kind : Kind A} {answer : A} (before : List Test) (fields : List Bool) (after : List Test) where
   -- refusal 1 tells the first field outside
   pub tells-first : byOthers before ≡ true → byOthers after ≡ true → TellsFirst (kind .told) fields (Says kind (before ++ (limitTests fields ++ after)) answer)
-  tells-first b a r place s one = first (checksOf before) refl
+  tells-first b a r s one = first (checksOf before) refl
     where
       number : Report → ℕ
       number report = report .0
 
-      last : (c : Checked) → c ≡ checksOf after → judged reportOf success after ≡ reportOf (OutsideLimits place) → ⊥
-      last Passed e t = let z : _≡_ {A = ℕ} 0 1 = ap number (judged-passed reportOf success after e ∙ t) in omega arith
-      last (Refused x) e t = others-refuse after a e (ap number (judged-refused reportOf success after e ∙ t))
+      -- what the tests from somewhere on answer is told
+      Told : List Test → Type 0
+      Told tests = kind .told r ≡ judged reportOf success tests
 
-      then : (c : Checked) → c ≡ checksOf (limitTests fields) → judged reportOf success (limitTests fields ++ after) ≡ reportOf (OutsideLimits place)
-          → FirstOutside fields place
-      then Passed e t = absurd (last (checksOf after) refl (passes reportOf success after (limitTests fields) e ∙ t))
-      then (Refused x) e t = outside-place fields e (stops reportOf success after (limitTests fields) e ∙ t)
+      last : (c : Checked) → c ≡ checksOf after → Told after → ⊥
+      last Passed e t = let z : _≡_ {A = ℕ} 0 1 = ap number (judged-passed reportOf success after e ∙ sym t) ∙ one in omega arith
+      last (Refused x) e t = others-refuse after a e (ap number (judged-refused reportOf success after e ∙ sym t) ∙ one)
 
-      first : (c : Checked) → c ≡ checksOf before → FirstOutside fields place
-      first Passed e = then (checksOf (limitTests fields)) refl (passes reportOf success (limitTests fields ++ after) before e ∙ sym (s .number) ∙ one)
-      first (Refused x) e = absurd (others-refuse before b e (ap number (stops reportOf success (limitTests fields ++ after) before e ∙ sym (s .number) ∙ one)))
+      then : (c : Checked) → c ≡ checksOf (limitTests fields) → Told (limitTests fields ++ after) → TellsPlace fields (kind .told r)
+      then Passed e t = absurd (last (checksOf after) refl (t ∙ sym (passes reportOf success after (limitTests fields) e)))
+      then (Refused x) e t = outside-told fields e (t ∙ sym (stops reportOf success after (limitTests fields) e))
+
+      first : (c : Checked) → c ≡ checksOf before → TellsPlace fields (kind .told r)
+      first Passed e = then (checksOf (limitTests fields)) refl (s .number ∙ sym (passes reportOf success (limitTests fields ++ after) before e))
+      first (Refused x) e =
+          absurd (others-refuse before b e (ap number (stops reportOf success (limitTests fields ++ after) before e ∙ sym (s .number)) ∙ one))
 
   -- and where the tests before pass, the first field outside is told
   pub first-told : {r : A} {place : ℕ} → Says kind (before ++ (limitTests fields ++ after)) answer r → Passed ≡ checksOf before → FirstOutside fields place

@@ -8,15 +8,13 @@ use native.Mathlib.Omega.{arith}
 use lib.Ieee.{Float}
 use lib.ListN.{length}
 use Rattle.refusal.specs.declared.Refusal.{Refusal}
-use Rattle.refusal.specs.declared.Report.{Report}
 use Rattle.refusal.specs.declared.Checked.{Checked}
 use Rattle.refusal.specs.declared.Checked.the-variants.{Passed, Refused}
 use Rattle.refusal.specs.Judge.{Test, checksOf, roomTest}
-use Rattle.refusal.specs.Demands.{numberOf, Among}
-use Rattle.refusal.specs.Limits.{FirstOutside}
+use Rattle.refusal.specs.Demands.{numberOf, Among, TellsPlace}
 use Rattle.refusal.specs.laws.Judge.{stops, checks, checks-on-by}
 use Rattle.refusal.specs.laws.Demands.{number-among}
-use Rattle.refusal.specs.laws.Limits.{outside-place}
+use Rattle.refusal.specs.laws.Limits.{outside-told}
 use Rattle.craft_context.specs.declared.context.CraftContext.{CraftContext}
 use Rattle.craft_context.specs.Limits.{contextLimits, contextTests}
 use Rattle.tree.specs.declared.node.Node.{Node}
@@ -106,13 +104,12 @@ inside-not-1 c o logs draws nodes out p s one = never-1 (inside-number c o logs 
 -- so refusal 1 tells the context's first field outside
 pub search-first : (c : CraftContext) (o : SearchOptions) (logs : List Float) (draws : List ℕ) (nodes : List Node) (out : List ℕ)
     → TellsFirstBesides searchedTold (contextLimits c) (Searches c o logs draws nodes out)
-search-first c o logs draws nodes out after written r place s one = by (checksOf (contextTests c)) refl
+search-first c o logs draws nodes out after written r s one = by (checksOf (contextTests c)) refl
   where
     rest : List Test
     rest = searchTest logs o (c .«step_max») ∷ roomTest (length nodes) newCount ∷ []
 
-    by : (k : Checked) → k ≡ checksOf (contextTests c) → FirstOutside (contextLimits c) place
-    by Passed e = absurd (inside-not-1 c o logs draws nodes out e s (ap (λ (report : Report). report .0) one))
+    by : (k : Checked) → k ≡ checksOf (contextTests c) → TellsPlace (contextLimits c) (searchedTold r)
+    by Passed e = absurd (inside-not-1 c o logs draws nodes out e s one)
     by (Refused x) e =
-        outside-place (contextLimits c) e
-        (ap searchedTold (stops (λ y. S.Refused y noProgress) _ rest (contextTests c) e) ∙ sym (s .number) ∙ one)
+        outside-told (contextLimits c) e (s .number ∙ sym (ap searchedTold (stops (λ y. S.Refused y noProgress) _ rest (contextTests c) e)))

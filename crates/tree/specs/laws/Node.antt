@@ -18,7 +18,8 @@ use Rattle.laws.specs.laws.Small.{Small, of-nat-value, truncated-small, add-sma
 use Rattle.action.specs.Known.{known}
 use Rattle.tree.specs.declared.node.Node.{Node}
 use Rattle.tree.specs.Node.{plusZero, visitsMost, countMost, nodeOf, rootNode, isScore, isFull, greaterOf, touchedOf}
-use Rattle.tree.specs.Sound.{placed, isCount, within, minus, isMaximum, isSet, soundAt}
+use Rattle.action_set.specs.Sets.{isSet}
+use Rattle.tree.specs.Sound.{placed, isCount, within, minus, isMaximum, soundAt}
 use Rattle.tree.specs.laws.Float.{within-small, small-within, count-small, eq-self, eq-equals, same-value}
 use Rattle.tree.specs.laws.Float.{count-more, plus-above, zero-value, one-value, most-value}
 use Rattle.laws.specs.Floats.{float, one, minusOne}

@@ -16,7 +16,8 @@ use Rattle.laws.specs.laws.Tests.{both, and-both}
 use Rattle.action.specs.Known.{known}
 use Rattle.tree.specs.declared.node.Node.{Node}
 use Rattle.tree.specs.Node.{nodeOf, rootNode}
-use Rattle.tree.specs.Sound.{isSet, soundAt}
+use Rattle.action_set.specs.Sets.{isSet}
+use Rattle.tree.specs.Sound.{soundAt}
 use Rattle.tree.specs.laws.Node.{sound-parts, root-sound, new-sound}
 use Rattle.tree.specs.Tree.{noNode, nodeAt, soundTo, isSound, plantedOf, insertedOf, Falls}
 use Rattle.tree.specs.inner.Sound.{SoundTree}
