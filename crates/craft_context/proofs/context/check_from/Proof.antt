@@ -12,7 +12,6 @@ use Rattle.refusal.specs.Judge.{checksOf}
 use Rattle.refusal.specs.Limits.{limitsFrom}
 use Rattle.refusal.specs.laws.Judge.{check-holds, check-fails, check-none}
 use Rattle.craft_context.specs.Limits.{durable, contextLimits}
-use Rattle.craft_context.specs.declared.context.CraftContext.{CraftContext}
 use Rattle.craft_context.proofs.context.check_from.Statement.{statement}
 use Rattle.craft_context.proofs.context.check_from.Tie as tie
 
