@@ -10,6 +10,7 @@ use borrow.Author.Tests.{le-leb, lt-leb}
 use lib.ListN.{drop}
 use Rattle.refusal.specs.Judge.{checksOf}
 use Rattle.refusal.specs.laws.Judge.{check-holds, check-fails, check-none}
+use Rattle.action.specs.Limits.{factorMost}
 use Rattle.context_line.specs.Fields.{wordMost, byteMost}
 use Rattle.context_line.specs.inner.Fields.{listed, earlyTests}
 use Rattle.context_line.specs.declared.fields.Fields.{Fields}
@@ -33,8 +34,12 @@ at-most f = omega (arith, f)
 past-levels : (c : tie.Start) → Past (c .args .numbers) 2
 past-levels c = check-holds _ _ (le-leb _ _ (at-most (recipe c))) ∙ check-holds _ _ (le-leb _ _ (at-most (player c)))
 
+-- the first that is tested
+progress-inside : (c : tie.Else1) → c .before .before .args .numbers .«base_progress_factor» ≤ factorMost
+progress-inside c = c .if1 .left
+
 past-progress-factor : (c : tie.Else1) → Past (c .before .before .args .numbers) 3
-past-progress-factor c = check-holds _ _ (le-leb _ _ (c .if1 .left)) ∙ past-levels (c .before .before)
+past-progress-factor c = check-holds _ _ (le-leb _ _ (progress-inside c)) ∙ past-levels (c .before .before)
 
 past-quality-factor : (c : tie.Else2) → Past (c .before .before .before .before .args .numbers) 4
 past-quality-factor c = check-holds _ _ (le-leb _ _ (c .if2 .left)) ∙ past-progress-factor (c .before .before)

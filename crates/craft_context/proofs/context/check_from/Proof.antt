@@ -1,7 +1,7 @@
 -- `craft_context::context::check_from` meets its contract: the tests in their order; a field that has no limit passes.
 -- Assumes nothing.
 use mathlib.Core.Path.{_≡_, refl, sym, ap, _∙_}
-use Prim.Native.Nat.{ℕ}
+use Prim.Native.Nat.{ℕ, _≤_}
 use mir.Syntax.{w8}
 use mir.Val.{SFits}
 use mir.ValLaws.{toZ-ofZ}
@@ -11,6 +11,7 @@ use lib.ListN.{drop}
 use Rattle.refusal.specs.Judge.{checksOf}
 use Rattle.refusal.specs.Limits.{limitsFrom}
 use Rattle.refusal.specs.laws.Judge.{check-holds, check-fails, check-none}
+use Rattle.action.specs.Limits.{factorMost}
 use Rattle.craft_context.specs.Limits.{durable, contextLimits}
 use Rattle.craft_context.proofs.context.check_from.Statement.{statement}
 use Rattle.craft_context.proofs.context.check_from.Tie as tie
@@ -24,8 +25,12 @@ Past s k =
 past-levels : (s : tie.Start) → Past s 2
 past-levels s = check-holds _ _ refl ∙ check-holds _ _ refl
 
+-- the first that is tested
+progress-inside : (c : tie.Else1) → c .before .before .args .context .«base_progress_factor» ≤ factorMost
+progress-inside c = c .if1 .left
+
 past-progress-factor : (c : tie.Else1) → Past (c .before .before) 3
-past-progress-factor c = check-holds _ _ (le-leb _ _ (c .if1 .left)) ∙ past-levels (c .before .before)
+past-progress-factor c = check-holds _ _ (le-leb _ _ (progress-inside c)) ∙ past-levels (c .before .before)
 
 -- a field of steps has no limit
 past-quality-factor : (c : tie.Else2) → Past (c .before .before .before .before) 5
