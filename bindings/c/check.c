@@ -42,6 +42,7 @@ static void check_lists(void)
 {
     const char *text = "BasicTouch\nNope";
     static const uint8_t list[] = { 0, 1, 31 };
+    static const uint8_t veneration_around[] = { 5, 0, 5 };
     static uint8_t long_list[65537];
 
     expect_text(crafty_read_list(bytes(text), 10, room, ROOM), CRAFTY_SUCCESS, 1, "\1", "a list is read");
@@ -52,8 +53,12 @@ static void check_lists(void)
     expect_text(crafty_write_list(list, 2, room, 25), CRAFTY_NO_ROOM, 26, "", "refusal 6 of a list written");
     expect_text(crafty_write_list(list, 3, room, ROOM), CRAFTY_UNKNOWN_ACTION, 2, "", "refusal 3");
     expect_text(crafty_write_list(long_list, 65537, room, ROOM), CRAFTY_TOO_LONG, 0, "", "refusal 13");
-    expect_text(crafty_macro_time(list, 2), CRAFTY_SUCCESS, 6, "", "a list is timed");
-    expect_text(crafty_macro_time(long_list, 65536), CRAFTY_SUCCESS, 196608, "", "the longest list is timed");
+    expect_text(crafty_macro_time(veneration_around, 3), CRAFTY_SUCCESS, 5, "", "a list is timed");
+    expect_text(crafty_macro_time(veneration_around, 2), CRAFTY_SUCCESS, 2, "", "nothing waits for the last line");
+    expect_text(crafty_macro_time(veneration_around + 1, 2), CRAFTY_SUCCESS, 3, "", "the first line waits");
+    expect_text(crafty_macro_time(veneration_around, 1), CRAFTY_SUCCESS, 0, "", "a list of one is timed");
+    expect_text(crafty_macro_time(NULL, 0), CRAFTY_SUCCESS, 0, "", "an empty list is timed");
+    expect_text(crafty_macro_time(long_list, 65536), CRAFTY_SUCCESS, 196605, "", "the longest list is timed");
     expect_text(crafty_macro_time(long_list, 65537), CRAFTY_TOO_LONG, 0, "", "refusal 13 of a list timed");
     expect_text(crafty_macro_time(list, 3), CRAFTY_UNKNOWN_ACTION, 2, "", "refusal 3 of a list timed");
 }

@@ -92,13 +92,16 @@ fn refuses_a_list() {
     assert_eq!(macro_time(&[255]), Err(Refusal::UnknownAction { place: 0 }));
     assert_eq!(write_list(&[31; 65_537]), Err(Refusal::TooLong));
     assert_eq!(macro_time(&[0; 65_537]), Err(Refusal::TooLong));
-    assert_eq!(macro_time(&[0; 65_536]), Ok(Duration::from_secs(3 * 65_536)));
+    assert_eq!(macro_time(&[0; 65_536]), Ok(Duration::from_secs(3 * 65_535)));
 }
 
-/// Veneration and MastersMend wait 2 and 3 seconds.
+/// Veneration and MastersMend wait 2 and 3 seconds, and nothing waits for the last line.
 #[test]
 fn times_a_list() {
-    assert_eq!(macro_time(&[5, 2]), Ok(Duration::from_secs(5)));
+    assert_eq!(macro_time(&[5, 2, 2]), Ok(Duration::from_secs(5)));
+    assert_eq!(macro_time(&[5, 2]), Ok(Duration::from_secs(2)));
+    assert_eq!(macro_time(&[2, 5]), Ok(Duration::from_secs(3)));
+    assert_eq!(macro_time(&[2]), Ok(Duration::ZERO));
     assert_eq!(macro_time(&[]), Ok(Duration::ZERO));
 }
 

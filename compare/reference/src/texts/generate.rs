@@ -3,12 +3,13 @@
 use super::answer::{answer, told, Answer, Told};
 use super::call::{Call, Function};
 use super::damage::damage;
+use super::lists::ends;
 use crate::random::Random;
 use crate::refusal::Refusal;
 use crate::replays::{self, Replay};
 use crafty::Action;
 
-/// A call, what it must answer in a room, and what became of its text, whole or damaged.
+/// A call, what it must answer in a room, and what is counted of it.
 pub struct Case {
     pub call: Call,
     pub answer: Answer,
@@ -63,10 +64,14 @@ pub fn in_room(random: &mut Random, call: Call) -> (Case, Result<Told, Refusal>)
     (Case::new(call, &told, room), told)
 }
 
-/// With what became of the text, if it is one.
+/// With what became of a text, and with the ends of a list that has a time.
 fn noted((case, told): (Case, Result<Told, Refusal>), damage: &str) -> Case {
-    let is_text = case.call.function == Function::ReplayText;
-    Case { met: is_text.then(|| format!("{damage}: {}", ended(&told))), ..case }
+    let met = match case.call.function {
+        Function::ReplayText => Some(format!("text, {damage}: {}", ended(&told))),
+        Function::MacroTime if told.is_ok() => Some(format!("time, {}", ends(&case.call.input))),
+        _ => None,
+    };
+    Case { met, ..case }
 }
 
 /// The result on the last line of a text, or its refusal.

@@ -31,8 +31,21 @@ pub fn written(list: &[u8]) -> Result<Vec<u8>, Refusal> {
     Ok(checked(list)?.into_iter().map(line).collect::<String>().into_bytes())
 }
 
+/// Nothing waits for the last line.
 pub fn seconds(list: &[u8]) -> Result<usize, Refusal> {
-    Ok(checked(list)?.into_iter().map(wait).sum())
+    let mut actions = checked(list)?;
+    actions.pop();
+    Ok(actions.into_iter().map(wait).sum())
+}
+
+/// The lines by which a time shows what it sums: the first counts, and the last does not.
+pub fn ends(list: &[u8]) -> String {
+    let wait = |number: &u8| wait(Action::ACTIONS[usize::from(*number)]);
+    match list {
+        [] => "no line".to_string(),
+        [_] => "one line".to_string(),
+        [first, .., last] => format!("the first waits {}, the last {}", wait(first), wait(last)),
+    }
 }
 
 fn checked(list: &[u8]) -> Result<Vec<Action>, Refusal> {

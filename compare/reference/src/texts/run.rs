@@ -25,7 +25,7 @@ pub fn compare(seed: u64, count: u64, host: &[&str]) -> io::Result<()> {
 fn count_case(counts: &mut Counts, case: &Case) {
     counts.answered(case.call.function.name(), case.answer.number, case.answer.value);
     if let Some(met) = &case.met {
-        counts.met(&format!("text, {met}"));
+        counts.met(met);
     }
 }
 

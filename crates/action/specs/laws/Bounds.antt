@@ -1,20 +1,22 @@
 -- Every row of ours is inside the bounds, and what they give.
 -- Assumes nothing.
 use mathlib.Core.Path.{_≡_, refl, sym, subst}
-use mathlib.Core.Bool.{Bool, true, false, cond}
+use mathlib.Core.Bool.{Bool, true, false, cond, _||_}
 use Prim.Native.Nat.{ℕ, _≤_, _<_}
 use native.Mathlib.Nat.{le-refl}
 use lib.Dec.{T, leb, leb→le, lit≤, eqb}
 use borrow.Author.Tests.{eqb-true}
+use Rattle.laws.specs.laws.Tests.{cond-le}
 use Rattle.laws.specs.laws.Same.{below, below-at}
 use Rattle.action.specs.Actions as A
 use Rattle.action.specs.Limits.{progressMost, qualityMost, wearMost, priceMost, discountPrice}
 use Rattle.action.specs.inner.Dearest.{dearest}
 use Rattle.action.specs.Known.{actions}
-use Rattle.action.specs.Amount.{AtMost, AtLeast}
+use Rattle.action.specs.Amount.{present, AtMost, AtLeast}
 use Rattle.action.specs.Table.{actionOf, attributesOf}
 use Rattle.action.specs.Bounds.{RowBounds, RowsIn}
 use Rattle.action.specs.Price.{priceOf}
+use Rattle.action.specs.Wait.{waitOf}
 use Rattle.action.specs.declared.table.Amount.{Amount}
 use Rattle.action.specs.declared.table.Amount.the-variants.{Of, Nothing}
 use Rattle.action.specs.declared.table.Attributes.{Attributes}
@@ -71,3 +73,7 @@ module _ {n : ℕ} {row : Attributes} (bounds : RowBounds n row) {base : ℕ} (c
   price-at-most C.StandardTouch = by-test (eqb n A.AdvancedTouch) advanced
   price-at-most C.RefinedTouch = le-refl base
   price-at-most C.Observe = by-test (eqb n A.AdvancedTouch) advanced
+
+-- no wait is above 3 seconds
+pub wait-most : (row : Attributes) → waitOf row ≤ 3
+wait-most row = cond-le (present (row .«progress_efficiency») || (present (row .«quality_efficiency») || present (row .«durability_cost»))) (lit≤ tt) (lit≤ tt)

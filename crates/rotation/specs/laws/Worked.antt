@@ -2,6 +2,7 @@
 -- Assumes nothing.
 use mathlib.Core.Path.{_≡_, refl}
 use mathlib.Core.List.{[], _∷_, _++_}
+use Prim.Native.Nat.{ℕ}
 use Rattle.refusal.specs.Judge.{checkedOf}
 use Rattle.refusal.specs.declared.Checked.the-variants.{Refused}
 use Rattle.refusal.specs.declared.Refusal.the-variants.{UnknownWord}
@@ -12,7 +13,7 @@ use Rattle.action.specs.Names.{nameOf, foundFrom, foundOf}
 use Rattle.rotation.specs.Gaps.{gap}
 use Rattle.rotation.specs.Words.{wordsFrom, wordsOf, actionsIn, wordsKnown, unknownAt, wordsTest}
 use Rattle.rotation.specs.Lines.{lineOf, listTextOf}
-use Rattle.rotation.specs.Seconds.{secondsOf}
+use Rattle.rotation.specs.Seconds.{waitsOf, secondsOf}
 
 -- `BasicTouch`, byte 10, `Nope`: refusal 5 at 11
 nope : checkedOf (wordsTest 0 (bytes "BasicTouch" ++ (10 ∷ bytes "Nope"))) ≡ Refused (UnknownWord 11)
@@ -29,7 +30,15 @@ written : listTextOf (A.Observe ∷ A.BasicTouch ∷ []) ≡ bytes "Observe" ++ 
 unfolding actionOf nameOf lineOf listTextOf
 written = refl
 
--- 2 seconds for a buff, and 3 for each of two others
-timed : secondsOf (A.Veneration ∷ A.BasicSynthesis ∷ A.BasicSynthesis ∷ []) ≡ 8
-unfolding actionOf secondsOf
+-- 2 seconds for a buff and 3 for another; nothing waits for the last line
+timed : secondsOf (A.Veneration ∷ A.BasicSynthesis ∷ A.BasicSynthesis ∷ []) ≡ 5
+unfolding actionOf waitsOf secondsOf
 timed = refl
+
+none-timed : secondsOf [] ≡ 0
+unfolding waitsOf secondsOf
+none-timed = refl
+
+one-timed : (n : ℕ) → secondsOf (n ∷ []) ≡ 0
+unfolding waitsOf secondsOf
+one-timed n = refl

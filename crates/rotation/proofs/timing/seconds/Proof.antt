@@ -1,17 +1,18 @@
--- `rotation::timing::seconds` meets its contract: what is summed and the time of the rest make up the list's.
+-- `rotation::timing::seconds` meets its contract: what is summed are the waits of the lines passed, and the walk ends before the last.
 -- Assumes nothing.
-use mathlib.Core.Path.{_≡_, ap}
-use Prim.Native.Nat.{_+_, _*_, _-_, _≤_}
+use mathlib.Core.Path.{_≡_, ap, sym}
+use mathlib.Core.List.{List}
+use Prim.Native.Nat.{ℕ, _+_, _*_, _-_, _≤_}
 use native.Mathlib.Omega.{arith}
-use lib.ListN.{length, drop}
+use lib.ListN.{length, take}
 use Rattle.action.specs.Wait.{waitOf}
-use Rattle.rotation.specs.Seconds.{secondsOf}
-use Rattle.rotation.specs.laws.Seconds.{seconds-on, seconds-end}
+use Rattle.rotation.specs.Seconds.{waitsOf}
+use Rattle.rotation.specs.laws.Seconds.{waits-none, waits-on, waits-end}
 use Rattle.rotation.proofs.timing.seconds.Statement.{statement}
 use Rattle.rotation.proofs.timing.seconds.Tie as tie
 
 abbrev Inv-loop : tie.InvT-loop
-Inv-loop list i₀ sum₀ i sum = (i ≤ length list) × (sum ≤ 3 * i) × (sum + secondsOf (drop i list) ≡ secondsOf list)
+Inv-loop list i₀ sum₀ i sum = (sum ≡ waitsOf (take i list)) × (i ≤ length list - 1) × (sum ≤ 3 * i)
 
 abbrev μ-loop : tie.MeasureT-loop
 μ-loop list i₀ sum₀ i sum = length list - i
@@ -22,6 +23,7 @@ seconds-spec =
     (tie.spec
     Inv-loop
     μ-loop
+    (λ c. (sym waits-none, omega arith, omega arith))
     (λ c. omega arith)
     (λ c. omega arith)
     (λ c κs. tt)
@@ -32,5 +34,8 @@ seconds-spec =
     (λ c. omega arith)
     (λ c.
     let l = c .before .before .before .before in
-    omega (arith, c .wait .ensures, ap waitOf (c .before .attributes-of .ensures), seconds-on (l .before .before .args .list .now) (l .loop .i) (c .before .before .before .loop-test .taken)))
-    (λ c. omega (arith, seconds-end (c .before .before .before .args .list .now) (c .loop-test .left))))
+    let list : List ℕ = l .before .before .args .list .now in
+    let before-last : l .loop .i + 1 ≤ length list - 1 = omega arith in
+    let line-waits = waits-on list (l .loop .i) (omega arith) in
+    (omega (arith, c .wait .ensures, ap waitOf (c .before .attributes-of .ensures), line-waits), before-last, omega (arith, c .wait .ensures)))
+    (λ c. omega (arith, waits-end (c .before .before .before .args .list .now) {i = c .before .loop .i} (omega arith))))
