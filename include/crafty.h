@@ -155,8 +155,8 @@ crafty_answer crafty_read_list(const uint8_t *text, size_t text_length, uint8_t 
 /* Writes a list as text: each action's name and a line feed. Value: the bytes written. Refused by 13, 3, 6. */
 crafty_answer crafty_write_list(const uint8_t *list, size_t list_length, uint8_t *out, size_t out_length);
 
-/* A list's macro time: nothing waits for the last line, since the craft is over when it is used. Value: the sum of the
- * waits of all lines but the last, in seconds; 0 for an empty list and a list of one. Refused by 13, 3. */
+/* A list's macro time. Value: the sum of the waits of all its actions but the last, in seconds, since the craft is over
+ * when that is used; 0 for an empty list and a list of one. Refused by 13, 3, for the last action too. */
 crafty_answer crafty_macro_time(const uint8_t *list, size_t list_length);
 
 /* A record of the search's tree. The first `count` records of a lent run are the tree; the others may hold anything.

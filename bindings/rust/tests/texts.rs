@@ -90,12 +90,13 @@ fn writes_what_it_reads() {
 fn refuses_a_list() {
     assert_eq!(write_list(&[0, 31]), Err(Refusal::UnknownAction { place: 1 }));
     assert_eq!(macro_time(&[255]), Err(Refusal::UnknownAction { place: 0 }));
+    assert_eq!(macro_time(&[5, 31]), Err(Refusal::UnknownAction { place: 1 }));
     assert_eq!(write_list(&[31; 65_537]), Err(Refusal::TooLong));
     assert_eq!(macro_time(&[0; 65_537]), Err(Refusal::TooLong));
     assert_eq!(macro_time(&[0; 65_536]), Ok(Duration::from_secs(3 * 65_535)));
 }
 
-/// Veneration and MastersMend wait 2 and 3 seconds, and nothing waits for the last line.
+/// Veneration and MastersMend wait 2 and 3 seconds, and nothing waits for the last action.
 #[test]
 fn times_a_list() {
     assert_eq!(macro_time(&[5, 2, 2]), Ok(Duration::from_secs(5)));

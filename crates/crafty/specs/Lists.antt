@@ -1,5 +1,5 @@
--- Document 01, 'Text': what each public entry over a list of actions as text answers, for any bytes: its tests in the order of the refusals, then
--- its answer.
+-- Document 01, 'Text', and document 02, E5, for the macro time: what each public entry over a list of actions as text answers, for any bytes: its tests
+-- in the order of the refusals, then its answer.
 -- Assumes nothing.
 use mathlib.Core.Path.{refl}
 use mathlib.Core.List.{List, [], _∷_}

@@ -1,5 +1,5 @@
--- Document 01, Text and The replay program, for hosts: what each function on text answers, for any bytes, and what the lent room holds then. As its
--- entry in crafty, told in a number and a value.
+-- Document 01, Text and The replay program, and document 02, E5, for hosts: what each function on text answers, for any bytes, and what the lent room
+-- holds then. As its entry in crafty, told in a number and a value.
 -- Assumes nothing.
 use mathlib.Core.List.{List, [], _∷_, _++_}
 use Prim.Native.Nat.{ℕ}

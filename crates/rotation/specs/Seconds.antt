@@ -7,16 +7,16 @@ use lib.ListN.{length, getD, take}
 use Rattle.action.specs.Table.{attributesOf}
 use Rattle.action.specs.Wait.{waitOf}
 
--- every wait of some lines
+-- the waits of some actions
 unfoldable pub waitsOf : List ℕ → ℕ
 waitsOf [] = 0
 waitsOf (n ∷ rest) = waitOf (attributesOf n) + waitsOf rest
 
--- 0 - 1 is 0, so of no line none is left out
+-- of all but the last; a line of the macro is an action of the list
 unfoldable pub secondsOf : List ℕ → ℕ
 secondsOf list = waitsOf (take (length list - 1) list)
 
--- the wait of the last line, which a line more makes count; 0 where there is none
+-- the wait of the last action, which counts once another follows; 0 where there is none
 unfoldable pub lastWait : List ℕ → ℕ
 lastWait [] = 0
 lastWait (n ∷ rest) = waitOf (attributesOf (getD (n ∷ rest) (length rest) 0))

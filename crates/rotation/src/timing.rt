@@ -5,7 +5,7 @@ ghost use lib.ListN.{length};
 ghost use Rattle.refusal.specs.Judge.{sizeMost};
 ghost use Rattle.rotation.specs.Seconds.{secondsOf};
 
-// The waits of its lines in seconds, without the last: the craft is over when that is used.
+// The waits of its actions in seconds, without the last: the craft is over when that is used.
 pub fn seconds(list: &[u8]) -> u32
     requires { ⌜ length (now list) ≤ sizeMost ⌝ }
     ensures { λ r. ⌜ r ≡ secondsOf (now (list .entry)) ⌝ }

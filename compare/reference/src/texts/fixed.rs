@@ -197,9 +197,8 @@ fn words() -> Vec<Vec<u8>> {
 
 fn lists() -> Vec<Vec<u8>> {
     let all: Vec<u8> = (0..UNKNOWN).collect();
-    let buff = Action::Veneration as u8;
     let mut lists: Vec<Vec<u8>> = (0..=u8::MAX).map(|number| vec![number]).collect();
-    lists.extend(all.iter().flat_map(|number| [vec![*number, buff], vec![buff, *number]]));
+    lists.extend(all.iter().flat_map(|first| all.iter().map(|last| vec![*first, *last])));
     lists.extend([vec![], [&all[..], &[UNKNOWN, 255]].concat(), all]);
     for size in [INPUT_MOST, INPUT_MOST + 1] {
         let same = vec![Action::DelicateSynthesisTraited as u8; size];

@@ -31,19 +31,19 @@ pub fn written(list: &[u8]) -> Result<Vec<u8>, Refusal> {
     Ok(checked(list)?.into_iter().map(line).collect::<String>().into_bytes())
 }
 
-/// Nothing waits for the last line.
+/// Nothing waits for the last action.
 pub fn seconds(list: &[u8]) -> Result<usize, Refusal> {
     let mut actions = checked(list)?;
     actions.pop();
     Ok(actions.into_iter().map(wait).sum())
 }
 
-/// The lines by which a time shows what it sums: the first counts, and the last does not.
+/// What tells one sum of waits from another: of two actions or more the first counts, and the last does not.
 pub fn ends(list: &[u8]) -> String {
     let wait = |number: &u8| wait(Action::ACTIONS[usize::from(*number)]);
     match list {
-        [] => "no line".to_string(),
-        [_] => "one line".to_string(),
+        [] => "no action".to_string(),
+        [_] => "one action".to_string(),
         [first, .., last] => format!("the first waits {}, the last {}", wait(first), wait(last)),
     }
 }

@@ -1,4 +1,4 @@
--- Every row of ours is inside the bounds, and what they give.
+-- Every row of ours is inside the bounds, and what they give; and the most that any row waits.
 -- Assumes nothing.
 use mathlib.Core.Path.{_≡_, refl, sym, subst}
 use mathlib.Core.Bool.{Bool, true, false, cond, _||_}

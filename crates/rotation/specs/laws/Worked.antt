@@ -1,4 +1,4 @@
--- Examples of document 01, worked out from the definitions.
+-- Examples of document 01, and of document 02's E5, worked out from the definitions.
 -- Assumes nothing.
 use mathlib.Core.Path.{_≡_, refl}
 use mathlib.Core.List.{[], _∷_, _++_}
@@ -30,7 +30,7 @@ written : listTextOf (A.Observe ∷ A.BasicTouch ∷ []) ≡ bytes "Observe" ++ 
 unfolding actionOf nameOf lineOf listTextOf
 written = refl
 
--- 2 seconds for a buff and 3 for another; nothing waits for the last line
+-- 2 seconds for a buff and 3 for another, and nothing waits for the last
 timed : secondsOf (A.Veneration ∷ A.BasicSynthesis ∷ A.BasicSynthesis ∷ []) ≡ 5
 unfolding actionOf waitsOf secondsOf
 timed = refl
