@@ -45,7 +45,7 @@ static void check_lists(void)
     static const uint8_t buff_first[] = { 5, 0, 0 };
     static uint8_t long_list[65537];
 
-    long_list[65536] = 31;
+    long_list[65536] = 31; /* 13 comes before 3 */
     expect_text(crafty_read_list(bytes(text), 10, room, ROOM), CRAFTY_SUCCESS, 1, "\1", "a list is read");
     expect_text(crafty_read_list(bytes(text), 15, room, ROOM), CRAFTY_UNKNOWN_WORD, 11, "", "refusal 5");
     expect_text(crafty_read_list(bytes(text), 10, room, 0), CRAFTY_NO_ROOM, 1, "", "refusal 6 of a list read");

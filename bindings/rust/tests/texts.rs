@@ -92,7 +92,7 @@ fn refuses_a_list() {
     assert_eq!(macro_time(&[255]), Err(Refusal::UnknownAction { place: 0 }));
     assert_eq!(macro_time(&[5, 31]), Err(Refusal::UnknownAction { place: 1 }));
     assert_eq!(write_list(&[31; 65_537]), Err(Refusal::TooLong));
-    assert_eq!(macro_time(&[0; 65_537]), Err(Refusal::TooLong));
+    assert_eq!(macro_time(&[31; 65_537]), Err(Refusal::TooLong));
     assert_eq!(macro_time(&[0; 65_536]), Ok(Duration::from_secs(3 * 65_535)));
 }
 
