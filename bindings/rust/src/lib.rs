@@ -48,7 +48,7 @@ pub fn write_list(list: &[u8]) -> Result<String, Refusal> {
     written(|room| lent::write_list(list, room)).map(text)
 }
 
-/// The sum of the waits of all of a list's actions but the last, which ends the craft. Refused by 13 and 3.
+/// The sum of the waits of all of a list's actions but the last: nothing waits for that. Refused by 13 and 3.
 pub fn macro_time(list: &[u8]) -> Result<Duration, Refusal> {
     archive::macro_time(list).told().map(|seconds| Duration::from_secs(seconds as u64))
 }
