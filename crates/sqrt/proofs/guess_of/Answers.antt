@@ -13,8 +13,7 @@ use mir.Val.{Fits}
 use Rattle.sqrt.specs.Sqrt.{infinity_bits}
 use Rattle.sqrt.specs.laws.Patterns.{no_nan}
 use Rattle.sqrt.specs.laws.Cases.{yes, below_no_nan}
-use Rattle.sqrt.proofs.guess_of.Statement.{statement}
-use Rattle.sqrt.proofs.guess_of.Tie as tie
+use Rattle.sqrt.proofs.guess_of.Goals as goal
 
 -- a finite pattern's value is one of the wider format
 widens : (b : ℕ) → b < infinity_bits → T (fits binary64 (of_bits binary32 b) && not (is_nan (of_bits binary32 b)))
@@ -25,18 +24,11 @@ widens b h =
 spare : (n : ℕ) → n < 2 ^ 64 → Fits w64 (n / 2 ^ 28 + 1)
 spare n h = omega arith
 
-pub guess_of_spec : {M : Type 1} → statement M
-guess_of_spec =
-    tie.close
-    (tie.spec
-    (λ c. no_nan _ c.requires)
-    (λ c. widens _ c.before.requires)
-    (λ c. omega arith)
-    (λ c. no_nan _ (omega arith))
-    (λ c. widens _ (omega arith))
-    (λ c. below_no_nan _ _ (yes _ c.if1.true))
-    (λ c. spare _ (to_bits-lt binary64 _ (add-fits binary64 _ _)))
-    (λ c. omega arith)
-    (λ c. omega arith)
-    (λ c. omega arith)
-    (λ c. omega arith))
+pub float_from_bits-x : goal.float_from_bits-x
+float_from_bits-x c = no_nan _ c.requires
+
+pub float_from_bits-start : goal.float_from_bits-start
+float_from_bits-start c = no_nan _ (omega arith)
+
+pub overflow_add-result : goal.overflow_add-result
+overflow_add-result c = spare _ (to_bits-lt binary64 _ (add-fits binary64 _ _))

@@ -1,0 +1,17 @@
+-- `decimal::spell` meets its contract: each turn spells the last digit of what is left.
+-- Assumes nothing.
+use mathlib.Core.Path.{◌≡◌, refl}
+use Prim.Native.Nat.{◌^◌, ◌≤◌, ◌<◌}
+use native.Mathlib.Omega.{arith}
+use borrow.Author.Tests.{lt-ltb, le-ltb}
+use lib.ListN.{length, length-set}
+use Rattle.text.proofs.Spelling.{Spelling, unspelled, turn, last}
+use Rattle.text.proofs.SpelledLaws.{fewer}
+use Rattle.text.specs.Decimal.{decimal, decimal_of}
+use Rattle.text.proofs.decimal.spell.Given as goal
+
+abbrev pub invariant-loop-rest : goal.invariant-loop-rest
+invariant-loop-rest l = Spelling decimal (decimal_of l.n) l.i l.rest l.bytes × (l.rest < 10 ^ l.i) × (0 < l.i) × (l.i ≤ 10) × (length l.bytes ≡ 10)
+
+abbrev pub decreases-loop-rest : goal.decreases-loop-rest
+decreases-loop-rest l = l.i
