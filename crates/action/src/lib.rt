@@ -1,4 +1,7 @@
 // The 31 actions of action.rs by number: attributes, prices, gains, waits and text.
+
+#![tactic(auto)]
+
 mod gain;
 mod known;
 mod names;

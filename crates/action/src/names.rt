@@ -106,7 +106,7 @@ pub fn put_label(n: u8, out: &mut [u8], at: usize) -> usize
 }
 
 // The action whose name a word is.
-#[derive(Drop)]
+#[derive(Clone, Copy)]
 pub enum Found {
     Action(u8),
     Nothing,

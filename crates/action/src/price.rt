@@ -7,7 +7,7 @@ use super::table::Amount;
 use super::{ADVANCED_TOUCH, STANDARD_TOUCH};
 
 // The combo that a state holds: the action before, where it opens one.
-#[derive(Drop)]
+#[derive(Clone, Copy)]
 pub enum Combo {
     Nothing,
     BasicTouch,

@@ -5,13 +5,13 @@ ghost use Rattle.action.specs.Table.{row as Table·row, attributes_of};
 use Amount::{Nothing, Of};
 
 // What an action has of an attribute: so much, or the attribute is absent, which is not 0.
-#[derive(Drop)]
+#[derive(Clone, Copy)]
 pub enum Amount {
     Of(u32),
     Nothing,
 }
 
-#[derive(Drop)]
+#[derive(Clone, Copy)]
 pub struct Attributes {
     pub level: u32,
     pub progress_efficiency: Amount,

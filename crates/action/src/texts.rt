@@ -69,7 +69,7 @@ fn put_macro_text(n: u8, out: &mut [u8], at: usize) -> usize
 // Of the three: in bytes, no text is longer.
 pub const TEXT_MOST: usize = 33;
 
-#[derive(Drop)]
+#[derive(Clone, Copy)]
 pub enum Text {
     Name,
     Label,

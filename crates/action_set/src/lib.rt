@@ -1,4 +1,7 @@
 // Sets of actions: 31 bits, bit n for action n. Every method takes any number, and refuses what is outside the limits.
+
+#![tactic(auto)]
+
 ghost use Rattle.std.specs.Prelude.{◌≡◌};
 ghost use Rattle.refusal.specs.Judge.{checks_of};
 ghost use Rattle.action_set.specs.Sets.{member_tests};
@@ -8,7 +11,7 @@ use refusal::{Checked, Refusal};
 
 pub mod bits;
 
-#[derive(Drop)]
+#[derive(Clone, Copy)]
 pub struct ActionSet(pub u32);
 
 // Refusals 1 and 3, of a set and an action.
@@ -23,28 +26,28 @@ pub fn check_member(set: ActionSet, n: u8) -> Checked
 }
 
 // A set, or a refusal.
-#[derive(Drop)]
+#[derive(Clone, Copy)]
 pub enum Changed {
     Set(ActionSet),
     Refused(Refusal),
 }
 
 // A yes or a no, or a refusal.
-#[derive(Drop)]
+#[derive(Clone, Copy)]
 pub enum Asked {
     Is(bool),
     Refused(Refusal),
 }
 
 // How many members, or a refusal.
-#[derive(Drop)]
+#[derive(Clone, Copy)]
 pub enum Size {
     Is(u32),
     Refused(Refusal),
 }
 
 // The highest member, none of the empty set, or a refusal.
-#[derive(Drop)]
+#[derive(Clone, Copy)]
 pub enum Highest {
     Is(u8),
     Empty,
@@ -52,7 +55,7 @@ pub enum Highest {
 }
 
 // How many members were written, or a refusal.
-#[derive(Drop)]
+#[derive(Clone, Copy)]
 pub enum Listed {
     Count(usize),
     Refused(Refusal),

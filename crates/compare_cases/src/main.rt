@@ -1,4 +1,7 @@
 // Answers the cases of compare/ on standard input, a line for each: docs/COMPARISON.md has their form.
+
+#![tactic(auto)]
+
 use compare_lines::{case, say};
 use libc::STDIN_FILENO;
 

@@ -11,7 +11,7 @@ use craft_context::{CraftContext, place};
 use refusal::{Checked, Refusal};
 
 // A context, or a refusal.
-#[derive(Drop)]
+#[derive(Clone, Copy)]
 pub enum Read {
     Context(CraftContext),
     Refused(Refusal),
@@ -20,7 +20,7 @@ pub enum Read {
 pub const FIELDS: usize = 15;
 
 // A number for each field, as a host gives them.
-#[derive(Drop)]
+#[derive(Clone, Copy)]
 pub struct Fields {
     pub player_job_level: u32,
     pub recipe_job_level: u32,

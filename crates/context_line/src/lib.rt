@@ -1,4 +1,7 @@
 // A context as text: one line of fifteen numbers. And a context from fifteen numbers.
+
+#![tactic(auto)]
+
 mod fields;
 mod line;
 mod runs;

@@ -15,7 +15,7 @@ const LINE_FEED: u8 = 10;
 const SPACE: u8 = 32;
 
 // The numbers of a line that has the shape, and zeros for one that has not.
-#[derive(Drop)]
+#[derive(Clone, Copy)]
 struct Numbers {
     shaped: bool,
     values: [u64; FIELDS],

@@ -13,7 +13,7 @@ use action_set::ActionSet;
 use refusal::{Checked, Refusal};
 
 // A context, or a refusal.
-#[derive(Drop)]
+#[derive(Clone, Copy)]
 pub enum Built {
     Context(CraftContext),
     Refused(Refusal),

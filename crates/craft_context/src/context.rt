@@ -9,7 +9,7 @@ use super::place;
 use action_set::ActionSet;
 use refusal::{Checked, Refusal};
 
-#[derive(Drop)]
+#[derive(Clone, Copy)]
 pub struct CraftContext {
     pub player_job_level: u32,
     pub recipe_job_level: u32,

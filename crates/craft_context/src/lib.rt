@@ -1,4 +1,7 @@
 // The context of a craft: what stays as it is while the craft goes on, its limits, and how it is built.
+
+#![tactic(auto)]
+
 mod build;
 mod context;
 mod factor;

@@ -1,5 +1,5 @@
 // What a context is built from: player, recipe and options, with the fields of the Rust in its order.
-#[derive(Drop)]
+#[derive(Clone, Copy)]
 pub struct Player {
     pub job_level: u32,
     pub craftsmanship: u32,
@@ -7,7 +7,7 @@ pub struct Player {
     pub cp: u32,
 }
 
-#[derive(Drop)]
+#[derive(Clone, Copy)]
 pub struct Recipe {
     pub recipe_level: u32,
     pub job_level: u32,
@@ -24,13 +24,13 @@ pub struct Recipe {
 }
 
 // A number that an option may give.
-#[derive(Drop)]
+#[derive(Clone, Copy)]
 pub enum Given {
     Value(u32),
     Nothing,
 }
 
-#[derive(Drop)]
+#[derive(Clone, Copy)]
 pub struct CraftOptions {
     pub max_steps: u8,
     pub starting_quality: Given,

@@ -1,4 +1,7 @@
 // The state of a craft: its fields, their ranges, where it starts, and its line. The context is a value of its own beside it.
+
+#![tactic(auto)]
+
 mod buffs;
 mod display;
 mod ranges;

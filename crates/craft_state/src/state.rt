@@ -8,7 +8,7 @@ use craft_context::CraftContext;
 use refusal::{Checked, Refusal};
 
 // Trained perfection is used once in a craft.
-#[derive(Drop)]
+#[derive(Clone, Copy)]
 pub enum Perfection {
     Unused,
     Active,
@@ -16,13 +16,13 @@ pub enum Perfection {
 }
 
 // The action that led to a state, which may be any number.
-#[derive(Drop)]
+#[derive(Clone, Copy)]
 pub enum Last {
     Nothing,
     Was(u8),
 }
 
-#[derive(Drop)]
+#[derive(Clone, Copy)]
 pub struct CraftState {
     pub step: u8,
     pub progress: u32,
@@ -37,7 +37,7 @@ pub struct CraftState {
 }
 
 // A state, or a refusal.
-#[derive(Drop)]
+#[derive(Clone, Copy)]
 pub enum Started {
     At(CraftState),
     Refused(Refusal),

@@ -6,28 +6,28 @@ use action::{Amount, Attributes, Combo, Found, TEXT_MOST, Text};
 use refusal::{Checked, Refusal};
 
 // An action's attributes, or a refusal.
-#[derive(Drop)]
+#[derive(Clone, Copy)]
 pub enum Attributed {
     Row(Attributes),
     Refused(Refusal),
 }
 
 // An action's price, none where it has no cost, or a refusal.
-#[derive(Drop)]
+#[derive(Clone, Copy)]
 pub enum Priced {
     Costs(Amount),
     Refused(Refusal),
 }
 
 // An action's wait in seconds, or a refusal.
-#[derive(Drop)]
+#[derive(Clone, Copy)]
 pub enum Timed {
     Seconds(u8),
     Refused(Refusal),
 }
 
 // The action that a name names, or a refusal.
-#[derive(Drop)]
+#[derive(Clone, Copy)]
 pub enum Named {
     Action(u8),
     Refused(Refusal),

@@ -1,6 +1,9 @@
 // The public face of the engine. Every entry takes any numbers and bytes, and refuses what is outside the limits by a fixed number.
 // The entries over sets and contexts are the methods of `ActionSet` and `CraftContext`; a craft starts by `CraftState::new`; those over a tree are the
 // crate `tree`'s, and the search is the crate `search`'s.
+
+#![tactic(auto)]
+
 mod actions;
 mod lists;
 mod program;

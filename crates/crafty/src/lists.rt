@@ -6,7 +6,7 @@ use refusal::{Checked, Refusal};
 use rotation::Counted;
 
 // A list's macro time in seconds, or a refusal.
-#[derive(Drop)]
+#[derive(Clone, Copy)]
 pub enum Lasting {
     Seconds(u32),
     Refused(Refusal),

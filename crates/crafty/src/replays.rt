@@ -7,7 +7,7 @@ use refusal::{Checked, Refusal};
 use simulator::Replay;
 
 // Where a replay stopped, or a refusal.
-#[derive(Drop)]
+#[derive(Clone, Copy)]
 pub enum Replayed {
     Report(Replay),
     Refused(Refusal),

@@ -4,7 +4,7 @@ ghost use Rattle.crafty.specs.Room.{Fits};
 use refusal::{Checked, Refusal};
 
 // How many bytes were written, where a list has one for each action, or a refusal.
-#[derive(Drop)]
+#[derive(Clone, Copy)]
 pub enum Written {
     Length(usize),
     Refused(Refusal),

@@ -10,28 +10,28 @@ use refusal::{Checked, Refusal};
 use score::CraftResult;
 
 // A state's legal moves, or a refusal.
-#[derive(Drop)]
+#[derive(Clone, Copy)]
 pub enum Allowed {
     Moves(ActionSet),
     Refused(Refusal),
 }
 
 // The next state, or a refusal.
-#[derive(Drop)]
+#[derive(Clone, Copy)]
 pub enum Stepped {
     To(CraftState),
     Refused(Refusal),
 }
 
 // A state's result, or a refusal.
-#[derive(Drop)]
+#[derive(Clone, Copy)]
 pub enum Judged {
     Result(CraftResult),
     Refused(Refusal),
 }
 
 // A state's score, finished or not, or a refusal.
-#[derive(Drop)]
+#[derive(Clone, Copy)]
 pub enum Scored {
     Score(f32),
     Refused(Refusal),

@@ -8,7 +8,7 @@ use refusal::{Also, Refusal};
 // Document 01's number, 0 for success, and a value: what also comes back with a refusal, or of a success how much was written,
 // or a list's seconds.
 #[repr(C)]
-#[derive(Drop)]
+#[derive(Clone, Copy)]
 pub struct CraftyAnswer {
     pub number: u32,
     pub value: usize,

@@ -1,6 +1,9 @@
 // The engine for hosts in C and Rust: a static library of functions on numbers, bytes and records, which include/crafty.h declares.
 // Every function takes any of these, and refuses by a fixed number; a refusal leaves what was lent as it was, but for the records of the iterations that a
 // search did before it.
+
+#![tactic(auto)]
+
 mod answer;
 mod numbers;
 mod replays;

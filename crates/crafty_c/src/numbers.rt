@@ -19,7 +19,7 @@ const WORD_MOST: u32 = 4294967295;
 
 // A state by its numbers.
 #[repr(C)]
-#[derive(Drop)]
+#[derive(Clone, Copy)]
 pub struct CraftyState {
     pub step: u32,
     pub progress: u32,

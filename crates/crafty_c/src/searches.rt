@@ -15,7 +15,7 @@ use tree::Node;
 
 // What `crafty_search` answers: beside the number and value, what was done, the path's length, its last node, and the state there.
 #[repr(C)]
-#[derive(Drop)]
+#[derive(Clone, Copy)]
 pub struct CraftyFound {
     pub number: u32,
     pub iterations: u32,

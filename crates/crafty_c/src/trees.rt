@@ -7,7 +7,7 @@ use tree::{Inserted, Node, Offspring, Planted, Propagated, Solved};
 
 // What `crafty_tree_solution` answers: beside the number and value, the last node.
 #[repr(C)]
-#[derive(Drop)]
+#[derive(Clone, Copy)]
 pub struct CraftySolution {
     pub number: u32,
     pub value: usize,

@@ -1,4 +1,7 @@
 // Legal moves, in plain and in strict mode.
+
+#![tactic(auto)]
+
 mod amounts;
 mod at_once;
 mod candidate;

@@ -2,7 +2,7 @@
 ghost use Rattle.std.specs.Prelude.{◌≡◌};
 ghost use Rattle.moves.specs.Modes.{mode_of};
 
-#[derive(Drop)]
+#[derive(Clone, Copy)]
 pub struct Mode {
     pub strict: bool,
 }

@@ -1,10 +1,13 @@
 // The best child of a record in the search, kept in a walk over the children, the newest first.
+
+#![tactic(auto)]
+
 ghost use Rattle.std.specs.Prelude.{◌≡◌};
 ghost use Rattle.rates.specs.Best.{no_best, better_of};
 ghost use Rattle.rates.specs.inner.Holds.{Holds, Asks};
 
 // What the ucb1 of all children of one record share: two weights, and the logarithm of the record's visits.
-#[derive(Drop)]
+#[derive(Clone, Copy)]
 pub struct Weights {
     pub w: f32,
     pub c: f32,
@@ -12,7 +15,7 @@ pub struct Weights {
 }
 
 // The best child so far, with its ucb1 and the part of it that was gained; 0 where there is none, since record 0 is no child.
-#[derive(Drop)]
+#[derive(Clone, Copy)]
 pub struct Best {
     pub at: usize,
     pub rate: f32,

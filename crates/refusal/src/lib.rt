@@ -1,11 +1,14 @@
 // The refusals of the whole engine, by the numbers of documents 01 and 02, and the tests that end in one.
+
+#![tactic(auto)]
+
 ghost use Rattle.std.specs.Prelude.{◌≡◌};
 ghost use Rattle.refusal.specs.Report.{report_of};
 ghost use Rattle.refusal.specs.Judge.{checked_of, room_test, size_test};
 
 use Also::{Nothing, Value};
 
-#[derive(Drop)]
+#[derive(Clone, Copy)]
 pub enum Refusal {
     // A context, set or builder number is outside its limit: the first such field's place, 0 for a set.
     OutsideLimits(usize),
@@ -35,14 +38,14 @@ pub enum Refusal {
 }
 
 // What also comes back with a refusal.
-#[derive(Drop)]
+#[derive(Clone, Copy)]
 pub enum Also {
     Nothing,
     Value(usize),
 }
 
 // Its number, 0 for no refusal, and what also comes back.
-#[derive(Drop)]
+#[derive(Clone, Copy)]
 pub struct Report(pub u8, pub Also);
 
 impl Refusal {
@@ -71,7 +74,7 @@ impl Refusal {
 }
 
 // What one test answers.
-#[derive(Drop)]
+#[derive(Clone, Copy)]
 pub enum Checked {
     Passed,
     Refused(Refusal),

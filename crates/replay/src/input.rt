@@ -9,7 +9,7 @@ use refusal::SIZE_MOST;
 pub const ROOM: usize = SIZE_MOST + 1;
 
 // Where the reading stands: failed, at the input's end, or open after so many bytes.
-#[derive(Drop)]
+#[derive(Clone, Copy)]
 pub enum Reading {
     Failed,
     Whole(usize),

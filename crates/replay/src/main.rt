@@ -1,4 +1,7 @@
 // The replay program: reads standard input to its end and writes what `crafty::replay_output` gives for it.
+
+#![tactic(auto)]
+
 mod input;
 
 use crafty::Written;

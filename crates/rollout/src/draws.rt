@@ -7,7 +7,7 @@ use action_set::bits;
 use refusal::Refusal;
 
 // The member that the draw names, or a refusal.
-#[derive(Drop)]
+#[derive(Clone, Copy)]
 pub enum Drawn {
     Member(u8),
     Refused(Refusal),

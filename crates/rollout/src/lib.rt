@@ -1,4 +1,7 @@
 // What a search does with the lent draws: a draw of a set, and the rollout from a state on.
+
+#![tactic(auto)]
+
 mod draws;
 mod rollout;
 

@@ -10,7 +10,7 @@ use craft_state::CraftState;
 use refusal::Refusal;
 use score::CraftResult;
 
-#[derive(Drop)]
+#[derive(Clone, Copy)]
 pub enum Rolled {
     // The result, and the place after the last draw that was used.
     Ended(CraftResult, usize),

@@ -1,4 +1,7 @@
 // A list of actions as text, read and written, and its macro time.
+
+#![tactic(auto)]
+
 mod gaps;
 mod lines;
 mod timing;

@@ -9,7 +9,7 @@ use super::gaps::{skip_gaps, skip_letters};
 use action::Found;
 
 // What follows a place of a text: no word, an unknown one at its start, or an action and the place after its name.
-#[derive(Drop)]
+#[derive(Clone, Copy)]
 enum Next {
     End,
     Unknown(usize),
@@ -33,7 +33,7 @@ fn next_word(text: &[u8], at: usize) -> Next
 }
 
 // How many words a text has, or where its first unknown word starts.
-#[derive(Drop)]
+#[derive(Clone, Copy)]
 pub enum Counted {
     Words(usize),
     Unknown(usize),

@@ -1,4 +1,7 @@
 // The score of a craft in a state, and the state's result.
+
+#![tactic(auto)]
+
 mod result;
 mod scoring;
 mod single;

@@ -9,7 +9,7 @@ use craft_context::CraftContext;
 use craft_state::CraftState;
 use moves::Mode;
 
-#[derive(Drop)]
+#[derive(Clone, Copy)]
 pub enum CraftResult {
     // Progress is at its target: the score.
     Finished(f32),

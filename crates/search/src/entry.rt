@@ -18,7 +18,7 @@ use refusal::{Checked, Refusal};
 use tree::{Node, Solved, put_node, solution};
 
 // What was done: iterations, records used, and draws used.
-#[derive(Drop)]
+#[derive(Clone, Copy)]
 pub struct Progress {
     pub iterations: u32,
     pub records: usize,
@@ -48,14 +48,14 @@ impl Progress {
 }
 
 // The path's length, its last record, and the state there.
-#[derive(Drop)]
+#[derive(Clone, Copy)]
 pub struct Found {
     pub path: usize,
     pub last: usize,
     pub state: CraftState,
 }
 
-#[derive(Drop)]
+#[derive(Clone, Copy)]
 pub enum Searched {
     Found(Progress, Found),
     Refused(Refusal, Progress),

@@ -10,7 +10,7 @@ use refusal::Checked;
 use tree::{Node, is_passed};
 
 // What was done, and what stopped it.
-#[derive(Drop)]
+#[derive(Clone, Copy)]
 pub struct Grown {
     pub checked: Checked,
     pub iterations: u32,

@@ -13,7 +13,7 @@ use refusal::Checked;
 use tree::{Node, is_passed, node_at, touch_path};
 
 // The count of records and the place of the next draw after an iteration; or a refusal, and those before it.
-#[derive(Drop)]
+#[derive(Clone, Copy)]
 pub struct Turned {
     pub checked: Checked,
     pub count: usize,

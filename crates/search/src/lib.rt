@@ -1,4 +1,7 @@
 // `search_oneshot` of simulator.rs, on draws and logarithms that the caller lends.
+
+#![tactic(auto)]
+
 mod entry;
 mod grow;
 mod iterate;

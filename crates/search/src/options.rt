@@ -11,7 +11,7 @@ ghost use Rattle.search.specs.Select.{ln_of};
 use refusal::{Checked, Refusal};
 use std::num;
 
-#[derive(Drop)]
+#[derive(Clone, Copy)]
 pub struct SearchOptions {
     pub iterations: u32,
     // From this score on the whole path of a finished rollout is stored.

@@ -11,7 +11,7 @@ use rollout::Rolled;
 use score::CraftResult;
 
 // How many records are stored, the score that is propagated from the last of them, and the place of the next draw; or a refusal.
-#[derive(Drop)]
+#[derive(Clone, Copy)]
 pub struct Plan {
     pub checked: Checked,
     pub stored: usize,

@@ -19,7 +19,7 @@ use rates::{Best, Weights};
 use tree::{Node, is_child, node_at};
 
 // A record, and the state there.
-#[derive(Drop)]
+#[derive(Clone, Copy)]
 pub struct Chosen {
     pub at: usize,
     pub state: CraftState,

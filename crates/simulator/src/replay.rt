@@ -17,7 +17,7 @@ use moves::Mode;
 use score::CraftResult;
 
 // The state where a replay stopped, its moves, its result, and how many actions were executed.
-#[derive(Drop)]
+#[derive(Clone, Copy)]
 pub struct Replay {
     pub state: CraftState,
     pub moves: ActionSet,

@@ -1,5 +1,8 @@
 // The square root of an f32, rounded to the nearest value. Floats guess the digits of a root, and whole numbers test the guess: so no answer
 // turns on a guess, and a wrong one costs time alone, that of Newton's iteration.
+
+#![tactic(auto)]
+
 ghost use Rattle.std.specs.Prelude.{◌≡◌, ◌*◌, ◌<◌, ◌≤◌};
 ghost use Rattle.sqrt.specs.Sqrt.{digits_end, square_end, infinity_bits, root_down, root_near, shift_by, root_of, root_bits, sqrt_of};
 ghost use Rattle.sqrt.specs.inner.Digits.{Digits};

@@ -1,4 +1,7 @@
 // One action on a state, as a chain of small functions in document 01's order.
+
+#![tactic(auto)]
+
 mod combos;
 mod durability;
 mod effects;

@@ -7,7 +7,7 @@ ghost use Rattle.text.specs.inner.Spelled.{Spelled, held_of};
 use crate::append::put;
 
 // A text of at most ten bytes: the last of ten, from `from` on, with spaces before it.
-#[derive(Drop)]
+#[derive(Clone, Copy)]
 struct Digits {
     bytes: [u8; 10],
     from: usize,

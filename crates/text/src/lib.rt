@@ -1,4 +1,7 @@
 // Text as bytes in lent room: appends, decimals, hexadecimals. Every writer has the contract `Put` of specs/Over.antt.
+
+#![tactic(auto)]
+
 mod append;
 mod decimal;
 mod hex;

@@ -11,7 +11,7 @@ use super::scan::is_sound;
 use refusal::{Checked, Refusal};
 
 // Every record from start to target was visited, or a refusal.
-#[derive(Drop)]
+#[derive(Clone, Copy)]
 pub enum Propagated {
     Done,
     Refused(Refusal),

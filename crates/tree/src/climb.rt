@@ -8,7 +8,7 @@ use super::node::{Node, is_full, touched};
 use super::records::{node_at, put_node};
 
 // Whether the target is the start or above it; and then whether a record from start to target is full.
-#[derive(Drop)]
+#[derive(Clone, Copy)]
 pub struct Survey {
     pub above: bool,
     pub full: bool,

@@ -10,21 +10,21 @@ use action_set::ActionSet;
 use refusal::{Checked, Refusal};
 
 // The count of a new tree, or a refusal.
-#[derive(Drop)]
+#[derive(Clone, Copy)]
 pub enum Planted {
     Count(usize),
     Refused(Refusal),
 }
 
 // The new record's number and the new count, or a refusal.
-#[derive(Drop)]
+#[derive(Clone, Copy)]
 pub enum Inserted {
     At(usize, usize),
     Refused(Refusal),
 }
 
 // A record, or a refusal.
-#[derive(Drop)]
+#[derive(Clone, Copy)]
 pub enum Recorded {
     Record(Node),
     Refused(Refusal),

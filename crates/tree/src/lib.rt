@@ -1,4 +1,7 @@
 // The tree of tree.rs and simulator.rs: a lent slice of records and a count of those used, and its entries.
+
+#![tactic(auto)]
+
 mod back;
 mod best;
 mod climb;

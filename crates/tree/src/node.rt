@@ -8,7 +8,7 @@ use refusal::{Checked, Refusal};
 
 // Laid out as in C, so that hosts lend their own records.
 #[repr(C)]
-#[derive(Drop)]
+#[derive(Clone, Copy)]
 pub struct Node {
     // The record's number above it; 0 in record 0.
     pub parent: usize,

@@ -11,14 +11,14 @@ use super::scan::is_sound;
 use refusal::Refusal;
 
 // How many children were listed, or a refusal.
-#[derive(Drop)]
+#[derive(Clone, Copy)]
 pub enum Offspring {
     Children(usize),
     Refused(Refusal),
 }
 
 // How many actions the solution has and its last record, or a refusal.
-#[derive(Drop)]
+#[derive(Clone, Copy)]
 pub enum Solved {
     Solution(usize, usize),
     Refused(Refusal),

@@ -1,5 +1,8 @@
 // What the search picks a child by, its ucb1: how well it did, and how little was tried of it. The walk over children adds the two, and asks for
 // the second, which has a root in it, only where the first leaves something open. Each operation is rounded, so their order is that of simulator.rs.
+
+#![tactic(auto)]
+
 ghost use Rattle.std.specs.Prelude.{◌≡◌};
 ghost use Rattle.ucb1.specs.Ucb1.{exploitation_of, exploration_of};
 

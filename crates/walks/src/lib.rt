@@ -1,1 +1,3 @@
 // The proof library for functions over a lent slice of structs. No code: see proofs/.
+
+#![tactic(auto)]

@@ -1,0 +1,10 @@
+-- `action::names::key` meets its contract.
+-- Assumes nothing.
+use native.Mathlib.Omega.{arith}
+use borrow.Author.Rules.{rules}
+use Rattle.action.specs.inner.Texts.{key_of}
+use Rattle.action.proofs.names.key.Goals as goal
+
+pub returns : goal.returns
+unfolding key_of
+returns c = (rw (c.wide.ensures.0, c.wide-2.ensures.0), omega arith)
