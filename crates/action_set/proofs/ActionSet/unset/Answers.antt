@@ -1,0 +1,21 @@
+-- `ActionSet::unset` meets its contract.
+-- Assumes nothing.
+use mathlib.Core.Path.{refl, ap}
+use mathlib.Core.List.{[]}
+use borrow.Author.Rules.{rules}
+use Rattle.refusal.specs.laws.Judge.{stopped_by_lem, onward_by, answered}
+use Rattle.action_set.specs.Sets.{member_tests}
+use Rattle.action_set.specs.laws.Sets.{member_shown}
+use Rattle.action_set.specs.Entries.{a_set}
+use Rattle.action_set.proofs.ActionSet.unset.Goals as goal
+
+pub returns-in-Refused : goal.returns-in-Refused
+returns-in-Refused c = let a = c.args in stopped_by_lem (member_tests a.self.0 a.n) [] c.check_member-tested.ensures c.in-Refused.is
+
+pub remove-requires : goal.remove-requires
+remove-requires c = let a = c.args in member_shown a.self.0 a.n c.check_member-tested.ensures c.in_default.is
+
+pub returns : goal.returns
+returns c =
+    let a = c.args in
+    onward_by (member_tests a.self.0 a.n) [] c.check_member-tested.ensures c.in_default.is (answered refl (ap a_set c.remove.ensures))

@@ -1,0 +1,16 @@
+-- `action_set::bits::nth` meets its contract: what is still to be taken off what remains names the same member.
+-- Assumes nothing.
+use mathlib.Core.Path.{◌≡◌, refl, sym, ap, ◌∙◌}
+use Prim.Native.Nat.{suc, ◌-◌, ◌<◌}
+use native.Mathlib.Omega.{arith}
+use Rattle.laws.specs.laws.Bits.{top_member}
+use Rattle.action.specs.Known.{actions}
+use Rattle.action_set.specs.Sets.{SetIn, size_of, nth_of}
+use Rattle.action_set.specs.laws.Nth.{some_left, first_is_top, next_of_rest, size_of_rest}
+use Rattle.action_set.proofs.bits.nth.Given as goal
+
+abbrev pub invariant-loop-above : goal.invariant-loop-above
+invariant-loop-above l = (nth_of l.remaining l.above ≡ nth_of l.s l.n) × SetIn l.remaining × (l.above < size_of l.remaining)
+
+abbrev pub decreases-loop-above : goal.decreases-loop-above
+decreases-loop-above l = l.above

@@ -1,0 +1,28 @@
+-- `action_set::bits::of_list` meets its contract: what is left of the list is still to be joined.
+-- Assumes nothing.
+use mathlib.Core.Path.{◌≡◌, sym, ap, ◌∙◌}
+use Prim.Native.Nat.{◌-◌}
+use native.Mathlib.Omega.{arith}
+use lib.Pow.{pow_pos}
+use lib.ListN.{length, drop, drop_of_length-le}
+use Rattle.laws.specs.Lists.{elem}
+use Rattle.action.specs.Known.{actions}
+use Rattle.action.specs.laws.Known.{known_each}
+use Rattle.action_set.specs.Sets.{SetIn, set_of}
+use Rattle.action_set.specs.laws.Sets.{joined, joined_start, joined_turn, joined_end}
+use Rattle.action_set.proofs.bits.of_list.Goals as goal
+
+pub loop-i-init : goal.loop-i-init
+loop-i-init c = (joined_start _, pow_pos actions)
+
+pub add-s-requires : goal.add-s-requires
+add-s-requires c = (c.loop-i.invariant.1, known_each _ c.requires _ c.loop-i-test.true)
+
+pub loop-i-preserved : goal.loop-i-preserved
+loop-i-preserved c =
+    (joined_turn _ _ _ c.loop-i-test.true c.add-s.ensures.0 ∙ c.loop-i.invariant.0, c.add-s.ensures.1)
+
+pub returns : goal.returns
+returns c =
+    let l = c.loop-i in
+    sym (joined_end _ l.invariant.1) ∙ ap (joined _) (sym (drop_of_length-le _ c.loop-i-test.false)) ∙ l.invariant.0
