@@ -10,7 +10,7 @@ use Prim.Native.Nat.{ℕ, zero, suc}
 use mathlib.Core.List.{List, [], ◌∷◌, ◌++◌}
 use lib.ListN.{length}
 use seplogic.Ra.Ura.{Ura}
-use seplogic.Ra.TreeShare.{full_share}
+use base.Fraction.{full_share}
 use mir.Syntax.{Name, Place, Opd as Operand, Body, named, seq, call}
 use mir.Val.{Val}
 use base.Logic.{SProp, ent, sep, ex, guard, emp, id⊢, via, mono_r, emp∗, snd∗, guard_i}

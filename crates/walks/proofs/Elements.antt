@@ -6,7 +6,7 @@ use mathlib.Core.List.{List, [], ◌∷◌}
 use lib.Dec.{T}
 use lib.ListN.{length, get_or, set, length-set}
 use seplogic.Ra.Ura.{Ura}
-use seplogic.Ra.TreeShare.{full_share}
+use base.Fraction.{full_share}
 use mir.Syntax.{Ty, Body, place, deref, copy, rv_opd, seq, assign}
 use mir.Val.{Val, vptr, has_ty, WT}
 use mir.Raw.{raw as raw_ty}
