@@ -15,7 +15,7 @@ use mir.Syntax.{Callee, Place, Opd as Operand, Body, named, seq, call}
 use mir.Val.{Val}
 use base.Logic.{SProp, ent, sep, ex, guard, emp, id⊢, via, mono_r, emp∗, snd∗, guard_i}
 use base.Fml.{Lft, GName, Share, Fml, ftrue, feq, fsep, flft, fbor}
-use prog.Wp.{Env, Calls, Loops, Tables}
+use prog.Wp.{Heap, Env, Calls, Loops, Tables}
 use types.Logic.{Logic, sem}
 use contract.Monad.{top, fact}
 use contract.Lifetimes.{Lfts, Shares, toks}
@@ -47,9 +47,7 @@ pub data Site (f : Callee) (xs : List Operand) (d : Place) : Body → Type 0 whe
   then : {rest : Body} → Site f xs d (seq (call f xs d) rest)
   last : Site f xs d (call f xs d)
 
-module _ {M : Type 1} {𝓤 : Ura M} {𝓛 : Logic 𝓤} where
-  open 𝓛 use {H}
-
+module _ {M : Type 1} {𝓤 : Ura M} {H : Heap 𝓤} where
   module _ {f : Callee} {xs : List Operand} {d : Place} where
     -- the result is stored there
     abbrev pub landing : {B : Body} → Site f xs d B → Calls 𝓤 H → Loops 𝓤 H → Env 𝓤 H → Val → Post 𝓤 H → Goal 𝓤 H
@@ -59,6 +57,9 @@ module _ {M : Type 1} {𝓤 : Ura M} {𝓛 : Logic 𝓤} where
     soaks : {B : Body} (s : Site f xs d B) (C : Calls 𝓤 H) (Λ : Loops 𝓤 H) (E : Env 𝓤 H) (v : Val) (q : Post 𝓤 H) → Soaks (landing s C Λ E v q)
     soaks then C Λ E v q = tt
     soaks last C Λ E v q = tt
+
+module _ {M : Type 1} {𝓤 : Ura M} {𝓛 : Logic 𝓤} where
+  open 𝓛 use {H}
 
   calls_there : {K : Type 0} {Γ : List (Item 𝓤)} {E : Env 𝓤 H} {C : Calls 𝓤 H} {Λ : Loops 𝓤 H} {q : Post 𝓤 H} {f : Callee} {xs : List Operand} {d : Place} {B : Body} → K → (s : Site f xs d B) → FmC 𝓤 H 𝓛.laws C → (c : Contract 𝓤) → Triple 𝓤 (C f) c → (x : c.Ghost)
       → Opds K 𝓛 (raw (c.pre x) ∷ Γ) E xs (c.args x) → ((r : Val) → Seq K 𝓛 (raw (c.post x r) ∷ Γ) (landing s C Λ E r q)) → Seq K 𝓛 (raw (c.pre x) ∷ Γ) (runs C Λ E B q)

@@ -79,7 +79,7 @@ pub use mathlib.Core.Bool.{Bool, true, false}
 pub use mathlib.Core.List.{List, [], ◌∷◌}
 pub use lib.Dec.{ltb, leb, eqb, lit<}
 pub use borrow.Author.Tests.{ltb-true, ltb-false, leb-true, leb-false, not-true, not-false}
-pub use contract.Running.{given_of, tables}
+pub use contract.Running.{tables}
 pub use types.Kit.{◌$◌, !, ‵, move}
 pub use types.Run.{skips, lit, float_lit, true_lit, false_lit, unit_lit, of_opd, bin, un, no_more}
 pub use types.Part.{agg}
