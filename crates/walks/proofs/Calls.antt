@@ -1,6 +1,6 @@
 -- The calls of a walk, as steps of `Types/Kit.antt`'s calculus. Each slice stands in the context, with its token after it, before the call and after it.
 --     Pass             a slice that the caller hands to the callee: lend_mut p S ys same, a `&mut` lent again as a `&mut`; lend_shr cp p S ys same, a `&mut` lent as a `&`; pass_shr cp p S ys same, a `&` passed on.
---                      p is the slice's number, from 0, as the slices stand at the front of the context
+--                      p is the slice's number, from 0, as the slices stand at the front of the context, and cp says that a `&` to an element can be made and passed on, as `copied` of a `Datum` does
 --     calls_slices     the call. The `&mut` slices come back at the lists that the callee left, and all others as they were
 --     calls_mut, calls_shared, calls_shr, calls_both      the same where the slices are the head of the context, each with names of its own.        calls_plain      a call with no slice
 -- A call ends a block (`last`), or another statement follows it (`then`). What is left to show is at the result's machine value, written out.
@@ -11,7 +11,7 @@ use mathlib.Core.List.{List, [], ◌∷◌, ◌++◌}
 use lib.ListN.{length}
 use seplogic.Ra.Ura.{Ura}
 use base.Fraction.{full_share}
-use mir.Syntax.{Callee, Place, Opd as Operand, Body, named, seq, call}
+use mir.Syntax.{Callee, Place, Opd as Operand, Body, seq, call}
 use mir.Val.{Val}
 use base.Logic.{SProp, ent, sep, ex, guard, emp, id⊢, via, mono_r, emp∗, snd∗, guard_i}
 use base.Fml.{Lft, GName, Share, Fml, ftrue, feq, fsep, flft, fbor}
@@ -19,7 +19,7 @@ use prog.Wp.{Heap, Env, Calls, Loops, Tables}
 use types.Logic.{Logic, sem}
 use contract.Monad.{top, fact}
 use contract.Lifetimes.{Lfts, Shares, toks}
-use types.Kit.{Step, step, Soaks, Goal, lands, settles, regoal, Item, ‵, raw, ◌⊛◌, some, given as provided, later, Post, runs, Seq, ⋆, mean, nth, put, del, pull, fill, push, pop, ◌$◌, ◌∵◌, !, qed, by, move, use0, use1, use2, use3, drop, split, join, pick, learn, rewrite, fsplit, fjoin, feq_l, await, updating, now as at_once, suffices, show, done}
+use types.Kit.{Step, step, Soaks, Goal, lands, settles, regoal, Item, ‵, raw, ◌⊛◌, some, given as provided, later, Post, runs, Seq, ⋆, mean, nth, put, del, pull, fill, push, pop, ◌$◌, ◌∵◌, !, qed, by, move, use0, use1, use2, use3, drop, split, join, pick, learn, fsplit, fjoin, feq_l, await, updating, now as at_once, suffices, show, done}
 use types.Tokens.{lft_new, lft_end}
 use types.Run.{Opds}
 use sound.WpLaws.{fm_of, FmC}
