@@ -8,7 +8,7 @@ use Prim.Native.Nat.{ℕ, zero, suc, ◌<◌, ◌^◌}
 use mathlib.Core.List.{List, [], ◌∷◌, map}
 use lib.ListN.{length, replicate, length-replicate}
 use seplogic.Ra.Ura.{Ura}
-use seplogic.Ra.TreeShare.{full_share}
+use base.Fraction.{full_share}
 use mir.Syntax.{Width, w64, Ty, Lifetime, Mutability, Body, Opd as Operand, ty_ref, ty_array, place, copy, int_big, addr_of, aggregate, repeat, seq, assign, named}
 use mir.Val.{Val, vint, vptr, bits, Fits}
 use base.Logic.{ent, sep, ex, via, guard_i}

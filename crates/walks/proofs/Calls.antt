@@ -1,6 +1,6 @@
 -- The calls of a walk, as steps of `Types/Kit.antt`'s calculus. Each slice stands in the context, with its token after it, before the call and after it.
---     Pass             a slice that the caller hands to the callee: lend_mut p S ys same, a `&mut` lent again as a `&mut`; lend_shr p S ys same, a `&mut` lent as a `&`; pass_shr p S ys same, a `&` passed on.
---                      p is the slice's number, from 0, as the slices stand at the front of the context
+--     Pass             a slice that the caller hands to the callee: lend_mut p S ys same, a `&mut` lent again as a `&mut`; lend_shr cp p S ys same, a `&mut` lent as a `&`; pass_shr cp p S ys same, a `&` passed on.
+--                      p is the slice's number, from 0, as the slices stand at the front of the context, and cp says that a `&` to an element can be made and passed on, as `copied` of a `Datum` does
 --     calls_slices     the call. The `&mut` slices come back at the lists that the callee left, and all others as they were
 --     calls_mut, calls_shared, calls_shr, calls_both      the same where the slices are the head of the context, each with names of its own.        calls_plain      a call with no slice
 -- A call ends a block (`last`), or another statement follows it (`then`). What is left to show is at the result's machine value, written out.
@@ -10,43 +10,45 @@ use Prim.Native.Nat.{ℕ, zero, suc}
 use mathlib.Core.List.{List, [], ◌∷◌, ◌++◌}
 use lib.ListN.{length}
 use seplogic.Ra.Ura.{Ura}
-use seplogic.Ra.TreeShare.{full_share}
-use mir.Syntax.{Name, Place, Opd as Operand, Body, named, seq, call}
+use base.Fraction.{full_share}
+use mir.Syntax.{Callee, Place, Opd as Operand, Body, seq, call}
 use mir.Val.{Val}
 use base.Logic.{SProp, ent, sep, ex, guard, emp, id⊢, via, mono_r, emp∗, snd∗, guard_i}
-use base.Fml.{Lft, GName, Share, Fml, ftrue, feq, fsep, flft}
-use prog.Wp.{Env, Calls, Loops, Tables}
+use base.Fml.{Lft, GName, Share, Fml, ftrue, feq, fsep, flft, fbor}
+use prog.Wp.{Heap, Env, Calls, Loops, Tables}
 use types.Logic.{Logic, sem}
 use contract.Monad.{top, fact}
 use contract.Lifetimes.{Lfts, Shares, toks}
-use types.Kit.{Step, step, Soaks, Goal, lands, settles, regoal, Item, ‵, raw, ◌⊛◌, some, given as provided, later, Post, runs, Seq, ⋆, mean, nth, put, del, pull, fill, push, pop, ◌$◌, ◌∵◌, !, qed, by, move, use0, use1, use2, use3, drop, split, join, pick, learn, rewrite, fsplit, fjoin, feq_l, await, updating, now as at_once, suffices, show, done}
+use types.Kit.{Step, step, Soaks, Goal, lands, settles, regoal, Item, ‵, raw, ◌⊛◌, some, given as provided, later, Post, runs, Seq, ⋆, mean, nth, put, del, pull, fill, push, pop, ◌$◌, ◌∵◌, !, qed, by, move, use0, use1, use2, use3, drop, split, join, pick, learn, fsplit, fjoin, feq_l, await, updating, now as at_once, suffices, show, done}
 use types.Tokens.{lft_new, lft_end}
 use types.Run.{Opds}
 use sound.WpLaws.{fm_of, FmC}
 use denote.RattleType.{RattleType, Denots, Valss, flat, owns}
 use denote.Exit.{yes, Last, left}
 use denote.Laws.{Is, Typed, shows}
-use denote.Slice.{slice_val, ShrSlice, shr_slice_copy, finally}
+use denote.Shadow.{pure_l, pure_i}
+use denote.Copied.{Copied, each_Twice}
+use denote.Opens.{twice_dup}
+use denote.Lend.{Held}
+use denote.Slice.{slice_val, shr_slice_at, elements_shared, finally}
 use denote.Steps.{only, peeks, heard, nothing}
 use denote.Triple.End.{Fins, all, outs, lasts_of}
 use denote.Triple.Statement.{Contract, Triple}
 use denote.Triple.Call.{calls_at, calls_at_last}
 use denote.Triple.Clauses.{Lasts, lasts}
-use Rattle.walks.proofs.Lend.{View, fat, named_at, Tok, Own, Shr, MutFor, ShrFor, LentMut, LentShr, lends_mut, lends_shr, mut_back, shr_back}
-use Rattle.walks.proofs.Values.{Datum, Data, machine, Known, rows_of, vals_of, at, from, from_at, flat_at, had}
+use Rattle.walks.proofs.Lend.{View, fat, named_at, bor_at, Tok, Own, Shr, MutFor, ShrFor, LentMut, LentShr, lends_mut, lends_shr, mut_back, shr_back}
+use Rattle.walks.proofs.Values.{Copies, Datum, Data, machine, Known, rows_of, vals_of, at, from, from_at, flat_at, had}
 use Rattle.walks.proofs.Locals.{under⊢, pack⊢, unpack⊢}
 use Rattle.walks.proofs.Arrays.{changes}
 use Rattle.walks.proofs.Functions.{Met, asked, ask_in, met_in, Lent, shr, mut, element, lent_at, lives, Lists, Lefts, SlicesFn, MutFn, ShrFn, BothFn, PlainFn, of_mut, of_shr, of_both, of_plain, params_of, types_of, lists_of, plains_of, lefts_of, slices_t, entered, passed, ContractSlices}
 
 -- ---- where a call stands: another statement follows it, or it ends its block
-pub data Site (f : Name) (xs : List Operand) (d : Place) : Body → Type 0 where
+pub data Site (f : Callee) (xs : List Operand) (d : Place) : Body → Type 0 where
   then : {rest : Body} → Site f xs d (seq (call f xs d) rest)
   last : Site f xs d (call f xs d)
 
-module _ {M : Type 1} {𝓤 : Ura M} {𝓛 : Logic 𝓤} where
-  open 𝓛 use {H}
-
-  module _ {f : Name} {xs : List Operand} {d : Place} where
+module _ {M : Type 1} {𝓤 : Ura M} {H : Heap 𝓤} where
+  module _ {f : Callee} {xs : List Operand} {d : Place} where
     -- the result is stored there
     abbrev pub landing : {B : Body} → Site f xs d B → Calls 𝓤 H → Loops 𝓤 H → Env 𝓤 H → Val → Post 𝓤 H → Goal 𝓤 H
     landing (then {rest}) C Λ E v q = lands C Λ E d v rest q
@@ -56,12 +58,15 @@ module _ {M : Type 1} {𝓤 : Ura M} {𝓛 : Logic 𝓤} where
     soaks then C Λ E v q = tt
     soaks last C Λ E v q = tt
 
-  calls_there : {K : Type 0} {Γ : List (Item 𝓤)} {E : Env 𝓤 H} {C : Calls 𝓤 H} {Λ : Loops 𝓤 H} {q : Post 𝓤 H} {f : Name} {xs : List Operand} {d : Place} {B : Body} → K → (s : Site f xs d B) → FmC 𝓤 H 𝓛.laws C → (c : Contract 𝓤) → Triple 𝓤 (C f) c → (x : c.Ghost)
+module _ {M : Type 1} {𝓤 : Ura M} {𝓛 : Logic 𝓤} where
+  open 𝓛 use {H}
+
+  calls_there : {K : Type 0} {Γ : List (Item 𝓤)} {E : Env 𝓤 H} {C : Calls 𝓤 H} {Λ : Loops 𝓤 H} {q : Post 𝓤 H} {f : Callee} {xs : List Operand} {d : Place} {B : Body} → K → (s : Site f xs d B) → FmC 𝓤 H 𝓛.laws C → (c : Contract 𝓤) → Triple 𝓤 (C f) c → (x : c.Ghost)
       → Opds K 𝓛 (raw (c.pre x) ∷ Γ) E xs (c.args x) → ((r : Val) → Seq K 𝓛 (raw (c.post x r) ∷ Γ) (landing s C Λ E r q)) → Seq K 𝓛 (raw (c.pre x) ∷ Γ) (runs C Λ E B q)
   calls_there t then fm c met x os k = calls_at t fm c met x os k
   calls_there t last fm c met x os k = calls_at_last t fm c met x os k
 
-module _ {M : Type 1} {𝓤 : Ura M} {𝓛 : Logic 𝓤} {K : Type 0} {Γ : List (Item 𝓤)} {f : Name} {xs : List Operand} {d : Place} {B : Body} (s : Site f xs d B) (C : Calls 𝓤 𝓛.H) (Λ : Loops 𝓤 𝓛.H) (E : Env 𝓤 𝓛.H) (P : Post 𝓤 𝓛.H) where
+module _ {M : Type 1} {𝓤 : Ura M} {𝓛 : Logic 𝓤} {K : Type 0} {Γ : List (Item 𝓤)} {f : Callee} {xs : List Operand} {d : Place} {B : Body} (s : Site f xs d B) (C : Calls 𝓤 𝓛.H) (Λ : Loops 𝓤 𝓛.H) (E : Env 𝓤 𝓛.H) (P : Post 𝓤 𝓛.H) where
   -- the callee's result is r, whose machine value is written out
   result : K → (res : Datum) (r : res.row.Denot) (w : Val) → (Is res.row r (res.val r ∷ []) → Typed res.row.mir (res.val r ∷ []) → Seq K 𝓛 Γ (landing s C Λ E (res.val r) P)) → Seq K 𝓛 (‵ (res.row.own_val r (w ∷ [])) ∷ Γ) (landing s C Λ E w P)
   result t res r w k = peeks t res.row (Is res.row) (shows 𝓛 res.row) r (w ∷ []) (λ is.
@@ -69,78 +74,79 @@ module _ {M : Type 1} {𝓤 : Ura M} {𝓛 : Logic 𝓤} {K : Type 0} {Γ : List
       let is' = subst (Is res.row r) (res.tells r (w ∷ []) is) is in k is' ((res.lawful 𝓛).typed r (res.val r ∷ []) is'))
 
 -- a copy of a `&[R]`, with the list's own length
-copied : {M : Type 1} {𝓤 : Ura M} {𝓛 : Logic 𝓤} {K : Type 0} {Γ : List (Item 𝓤)} {G : Goal 𝓤 𝓛.H} {R : RattleType} → K → (S : View R) (ys : List R.Denot) → length ys ≡ S.count → Step K 𝓛 (‵ (ShrFor S S.life ys S.name) ∷ ‵ (Shr S ys) ∷ Γ) G (‵ (Shr S ys) ∷ Γ) G
-copied {𝓤 = 𝓤} {𝓛} {R = R} t S ys l = step (λ k. use1 𝓛 (‵ (Shr S ys) ⊛ ‵ (Shr S ys)) ((shr_slice_copy 𝓛 (named 0) S.life R).twice (named_at S S.name ys) (fat S ∷ [])) $ split t $
-    rewrite t 0 (λ (m : ℕ). ‵ ((ShrSlice (named 0) S.life R).own_val (named_at S S.name ys) (slice_val (S.block, S.offset) m ∷ []))) (sym l) refl $ k)
+copied : {M : Type 1} {𝓤 : Ura M} {𝓛 : Logic 𝓤} {K : Type 0} {Γ : List (Item 𝓤)} {G : Goal 𝓤 𝓛.H} {R : RattleType} → K → Copied 𝓛 R → (S : View R) (ys : List R.Denot) → Step K 𝓛 (‵ (ShrFor S S.life ys) ∷ ‵ (Shr S ys) ∷ Γ) G (‵ (Shr S ys) ∷ Γ) G
+copied {𝓤 = 𝓤} {𝓛} {R = R} t c S ys = step (λ k. fsplit t $ pure_l t (shr_slice_at R (bor_at S ys) (fat S ∷ [])) (λ fact. twice_dup t (elements_shared R ys S.block S.offset) (each_Twice 𝓛 R c ys S.block S.offset) S.life $
+    pure_i t (shr_slice_at R (bor_at S ys) (fat S ∷ [])) (tt, (tt, tt)) fact $ fjoin t $ move t (1 ∷ []) $
+    pure_i t (shr_slice_at R (bor_at S ys) (slice_val (S.block, S.offset) (length ys) ∷ [])) (tt, (tt, tt)) (refl, fact.1) $ fjoin t $ k))
 
 -- ---- the slices of a call
 pub data Pass : Type 2 where
   lend_mut : {R : RattleType} → ℕ → (S : View R) (ys : List R.Denot) → length ys ≡ S.count → Pass
-  lend_shr : {R : RattleType} → ℕ → (S : View R) (ys : List R.Denot) → length ys ≡ S.count → Pass
-  pass_shr : {R : RattleType} → ℕ → (S : View R) (ys : List R.Denot) → length ys ≡ S.count → Pass
+  lend_shr : {R : RattleType} → Copies R → ℕ → (S : View R) (ys : List R.Denot) → length ys ≡ S.count → Pass
+  pass_shr : {R : RattleType} → Copies R → ℕ → (S : View R) (ys : List R.Denot) → length ys ≡ S.count → Pass
 
 -- ---- one slice
 abbrev pub theirs : Pass → Lent
 theirs (lend_mut {R} p S ys e) = mut R
-theirs (lend_shr {R} p S ys e) = shr R
-theirs (pass_shr {R} p S ys e) = shr R
+theirs (lend_shr {R} cp p S ys e) = shr R
+theirs (pass_shr {R} cp p S ys e) = shr R
 
 -- what the caller has of it, and the token
 abbrev pub here : Pass → Fml
 here (lend_mut p S ys e) = Own S ys
-here (lend_shr p S ys e) = Own S ys
-here (pass_shr p S ys e) = Shr S ys
+here (lend_shr cp p S ys e) = Own S ys
+here (pass_shr cp p S ys e) = Shr S ys
 
 abbrev pub token : Pass → Fml
 token (lend_mut p S ys e) = Tok S
-token (lend_shr p S ys e) = Tok S
-token (pass_shr p S ys e) = Tok S
+token (lend_shr cp p S ys e) = Tok S
+token (pass_shr cp p S ys e) = Tok S
 
 abbrev pub number : Pass → ℕ
 number (lend_mut p S ys e) = p
-number (lend_shr p S ys e) = p
-number (pass_shr p S ys e) = p
+number (lend_shr cp p S ys e) = p
+number (pass_shr cp p S ys e) = p
 
 -- its machine value, as the caller and as the callee's contract has it
 abbrev pub wide : Pass → Val
 wide (lend_mut p S ys e) = fat S
-wide (lend_shr p S ys e) = fat S
-wide (pass_shr p S ys e) = fat S
+wide (lend_shr cp p S ys e) = fat S
+wide (pass_shr cp p S ys e) = fat S
 
 abbrev counted : Pass → Val
 counted (lend_mut p S ys e) = slice_val (S.block, S.offset) (length ys)
-counted (lend_shr p S ys e) = slice_val (S.block, S.offset) (length ys)
-counted (pass_shr p S ys e) = slice_val (S.block, S.offset) (length ys)
+counted (lend_shr cp p S ys e) = slice_val (S.block, S.offset) (length ys)
+counted (pass_shr cp p S ys e) = slice_val (S.block, S.offset) (length ys)
 
 counted_is : (x : Pass) → counted x ≡ wide x
 counted_is (lend_mut p S ys e) = ap (slice_val (S.block, S.offset)) e
-counted_is (lend_shr p S ys e) = ap (slice_val (S.block, S.offset)) e
-counted_is (pass_shr p S ys e) = ap (slice_val (S.block, S.offset)) e
+counted_is (lend_shr cp p S ys e) = ap (slice_val (S.block, S.offset)) e
+counted_is (pass_shr cp p S ys e) = ap (slice_val (S.block, S.offset)) e
 
 -- the callee's lifetime and share: ν is a new lifetime
 abbrev life : Pass → ℕ → Lft
 life (lend_mut p S ys e) ν = ν ∷ []
-life (lend_shr p S ys e) ν = ν ∷ []
-life (pass_shr p S ys e) ν = S.life
+life (lend_shr cp p S ys e) ν = ν ∷ []
+life (pass_shr cp p S ys e) ν = S.life
 
 abbrev share : Pass → Share
 share (lend_mut p S ys e) = full_share
-share (lend_shr p S ys e) = full_share
-share (pass_shr p S ys e) = S.share
+share (lend_shr cp p S ys e) = full_share
+share (pass_shr cp p S ys e) = S.share
 
 -- the callee's i-th argument, under the name δ, and what the caller keeps meanwhile
 abbrev ref : (x : Pass) (i : ℕ) (κ : Lft) → GName → (lent_at i (theirs x) κ).Denot
 ref (lend_mut p S ys e) i κ δ = named_at S δ ys
-ref (lend_shr p S ys e) i κ δ = named_at S δ ys
-ref (pass_shr p S ys e) i κ δ = named_at S δ ys
+ref (lend_shr cp p S ys e) i κ δ = bor_at S ys
+ref (pass_shr cp p S ys e) i κ δ = bor_at S ys
 
 abbrev lent_to : (x : Pass) → ℕ → Lft → GName → Fml
 lent_to x i κ δ = (lent_at i (theirs x) κ).own_val (ref x i κ δ) (counted x ∷ [])
 
 abbrev kept : Pass → ℕ → GName → Fml
 kept (lend_mut p S ys e) ν δ = LentMut S (ν ∷ []) ys δ
-kept (lend_shr p S ys e) ν δ = LentShr S (ν ∷ []) ys
-kept (pass_shr p S ys e) ν δ = Shr S ys
+kept (lend_shr cp p S ys e) ν δ = LentShr S (ν ∷ []) ys
+kept (pass_shr cp p S ys e) ν δ = Shr S ys
 
 module _ {M : Type 1} {𝓤 : Ura M} (𝓛 : Logic 𝓤) where
   open 𝓛 use {H}
@@ -153,23 +159,23 @@ module _ {M : Type 1} {𝓤 : Ura M} (𝓛 : Logic 𝓤) where
       qed 𝓛 (‵ (Own S ys) ∷ ‵ (Tok S) ∷ []) ∵ updating ! $ lft_new ! tt (λ ν. move ! (1 ∷ 2 ∷ []) $
       use2 𝓛 (later (some (λ (δ : GName). ‵ (MutFor S (ν ∷ []) ys δ) ⊛ ‵ (LentMut S (ν ∷ []) ys δ)))) (lends_mut S (ν ∷ []) ys 𝓛) $ await ! tt $ pick ! (λ δ. split ! $ at_once ! $
       show ! (λ (c : ℕ × GName). Lending (lend_mut p S ys e) i c) (ν, δ) $ move ! (2 ∷ 0 ∷ 1 ∷ []) $ done !))
-  lend (lend_shr p S ys e) i =
+  lend (lend_shr cp p S ys e) i =
       qed 𝓛 (‵ (Own S ys) ∷ ‵ (Tok S) ∷ []) ∵ updating ! $ lft_new ! tt (λ ν. move ! (1 ∷ 2 ∷ []) $
-      use2 𝓛 (later (some (λ (δ : GName). ‵ (ShrFor S (ν ∷ []) ys δ) ⊛ ‵ (LentShr S (ν ∷ []) ys)))) (lends_shr S (ν ∷ []) ys 𝓛) $ await ! tt $ pick ! (λ δ. split ! $ at_once ! $
-      show ! (λ (c : ℕ × GName). Lending (lend_shr p S ys e) i c) (ν, δ) $ move ! (2 ∷ 0 ∷ 1 ∷ []) $ done !))
-  lend (pass_shr p S ys e) i =
-      qed 𝓛 (‵ (Shr S ys) ∷ ‵ (Tok S) ∷ []) ∵ updating ! $ copied ! S ys e $ at_once ! $ show ! (λ (c : ℕ × GName). Lending (pass_shr p S ys e) i c) (zero, S.name) $ move ! (2 ∷ 0 ∷ 1 ∷ []) $ done !
+      use2 𝓛 (later (‵ (ShrFor S (ν ∷ []) ys) ⊛ ‵ (LentShr S (ν ∷ []) ys))) (lends_shr S (ν ∷ []) ys 𝓛 (cp M 𝓤 𝓛)) $ await ! tt $ split ! $ at_once ! $
+      show ! (λ (c : ℕ × GName). Lending (lend_shr cp p S ys e) i c) (ν, S.name) $ move ! (2 ∷ 0 ∷ 1 ∷ []) $ done !)
+  lend (pass_shr cp p S ys e) i =
+      qed 𝓛 (‵ (Shr S ys) ∷ ‵ (Tok S) ∷ []) ∵ updating ! $ copied ! (cp M 𝓤 𝓛) S ys $ at_once ! $ show ! (λ (c : ℕ × GName). Lending (pass_shr cp p S ys e) i c) (zero, S.name) $ move ! (2 ∷ 0 ∷ 1 ∷ []) $ done !
 
   -- and back, from w, what the callee's contract binds
   abbrev after : (x : Pass) (i : ℕ) (κ : Lft) (δ : GName) → Last ((lent_at i (theirs x) κ).exit yes) (ref x i κ δ) → Fml
   after (lend_mut p S ys e) i κ δ w = Own S w
-  after (lend_shr p S ys e) i κ δ w = Own S ys
-  after (pass_shr p S ys e) i κ δ w = Shr S ys
+  after (lend_shr cp p S ys e) i κ δ w = Own S ys
+  after (pass_shr cp p S ys e) i κ δ w = Shr S ys
 
   abbrev LongFor : (x : Pass) (i : ℕ) (κ : Lft) (δ : GName) → Last ((lent_at i (theirs x) κ).exit yes) (ref x i κ δ) → Type 0
   LongFor (lend_mut p S ys e) i κ δ w = length w ≡ S.count
-  LongFor (lend_shr p S ys e) i κ δ w = Unit {0}
-  LongFor (pass_shr p S ys e) i κ δ w = Unit {0}
+  LongFor (lend_shr cp p S ys e) i κ δ w = Unit {0}
+  LongFor (pass_shr cp p S ys e) i κ δ w = Unit {0}
 
   abbrev Backed : (x : Pass) (i : ℕ) (κ : Lft) (ν : ℕ) (δ : GName) → Type 1
   Backed x i κ ν δ = (w : Last ((lent_at i (theirs x) κ).exit yes) (ref x i κ δ))
@@ -178,12 +184,13 @@ module _ {M : Type 1} {𝓤 : Ura M} (𝓛 : Logic 𝓤) where
 
   back : (x : Pass) (i ν : ℕ) (δ : GName) → Backed x i (life x ν) ν δ
   back (lend_mut {R} p S ys e) i ν δ w =
-      qed 𝓛 (‵ (flft (ν ∷ []) full_share) ∷ ‵ (fsep (finally R δ w) (feq ℕ (length w) (length ys))) ∷ ‵ (LentMut S (ν ∷ []) ys δ) ∷ []) ∵ updating ! $ lft_end ! tt $ move ! (1 ∷ []) $ fsplit ! $ move ! (1 ∷ []) $ feq_l ! (λ same. move ! (1 ∷ 2 ∷ 0 ∷ []) $
+      qed 𝓛 (‵ (flft (ν ∷ []) full_share) ∷ ‵ (fsep (fsep (finally R δ w) (feq ℕ (length w) (length ys))) (fbor (ν ∷ []) (Held R (length ys) S.block S.offset δ))) ∷ ‵ (LentMut S (ν ∷ []) ys δ) ∷ []) ∵
+      updating ! $ lft_end ! tt $ move ! (1 ∷ []) $ fsplit ! $ move ! (1 ∷ []) $ drop ! $ fsplit ! $ move ! (1 ∷ []) $ feq_l ! (λ same. move ! (1 ∷ 2 ∷ 0 ∷ []) $
       use3 𝓛 (later (‵ (Own S w) ⊛ ‵ (Tok S))) (mut_back S (ν ∷ []) ys 𝓛 e δ w same) $ await ! tt $ at_once ! $ suffices ! (sep 𝓤 (sem 𝓛 (Own S w)) (sem 𝓛 (Tok S))) (guard_i 𝓤 _ _ (same ∙ e)) $ done !)
-  back (lend_shr p S ys e) i ν δ w =
+  back (lend_shr cp p S ys e) i ν δ w =
       qed 𝓛 (‵ (flft (ν ∷ []) full_share) ∷ ‵ ftrue ∷ ‵ (LentShr S (ν ∷ []) ys) ∷ []) ∵ updating ! $ lft_end ! tt $ move ! (1 ∷ []) $ drop ! $
       use2 𝓛 (later (‵ (Own S ys) ⊛ ‵ (Tok S))) (shr_back S (ν ∷ []) ys 𝓛 e) $ await ! tt $ at_once ! $ suffices ! (sep 𝓤 (sem 𝓛 (Own S ys)) (sem 𝓛 (Tok S))) (guard_i 𝓤 _ _ tt) $ done !
-  back (pass_shr p S ys e) i ν δ w =
+  back (pass_shr cp p S ys e) i ν δ w =
       qed 𝓛 (‵ (Tok S) ∷ ‵ ftrue ∷ ‵ (Shr S ys) ∷ []) ∵ updating ! $ at_once ! $ move ! (1 ∷ []) $ drop ! $ suffices ! (sep 𝓤 (sem 𝓛 (Shr S ys)) (sem 𝓛 (Tok S))) (guard_i 𝓤 _ _ tt) $ move ! (1 ∷ 0 ∷ []) $ done !
 
 -- ---- all slices
@@ -193,8 +200,8 @@ taken (x ∷ xs) = theirs x ∷ taken xs
 
 abbrev list_of : (x : Pass) → List (element (theirs x)).Denot
 list_of (lend_mut p S ys e) = ys
-list_of (lend_shr p S ys e) = ys
-list_of (pass_shr p S ys e) = ys
+list_of (lend_shr cp p S ys e) = ys
+list_of (pass_shr cp p S ys e) = ys
 
 abbrev pub given : (xs : List Pass) → Lists (taken xs)
 given [] = tt
@@ -204,8 +211,8 @@ given (x ∷ xs) = (list_of x, given xs)
 abbrev still : (xs : List Pass) → Lefts (taken xs)
 still [] = tt
 still (lend_mut p S ys e ∷ xs) = (ys, still xs)
-still (lend_shr p S ys e ∷ xs) = still xs
-still (pass_shr p S ys e ∷ xs) = still xs
+still (lend_shr cp p S ys e ∷ xs) = still xs
+still (pass_shr cp p S ys e ∷ xs) = still xs
 
 abbrev pub wides : List Pass → List Val → List Val
 wides [] vs = vs
@@ -214,8 +221,8 @@ wides (x ∷ xs) vs = wide x ∷ wides xs vs
 abbrev pub LeftFor : (xs : List Pass) → Lefts (taken xs) → Type 0
 LeftFor [] Z = Unit {0}
 LeftFor (lend_mut p S ys e ∷ xs) Z = (length Z.0 ≡ S.count) × LeftFor xs Z.1
-LeftFor (lend_shr p S ys e ∷ xs) Z = LeftFor xs Z
-LeftFor (pass_shr p S ys e ∷ xs) Z = LeftFor xs Z
+LeftFor (lend_shr cp p S ys e ∷ xs) Z = LeftFor xs Z
+LeftFor (pass_shr cp p S ys e ∷ xs) Z = LeftFor xs Z
 
 -- the new lifetime and the new name of each
 abbrev Choices : List Pass → Type 0
@@ -254,8 +261,8 @@ module _ {M : Type 1} {𝓤 : Ura M} (𝓛 : Logic 𝓤) where
   abbrev lefts : (xs : List Pass) → Lefts (taken xs) → List (Item 𝓤 × Item 𝓤)
   lefts [] Z = []
   lefts (lend_mut p S ys e ∷ xs) Z = (‵ (Own S Z.0), ‵ (Tok S)) ∷ lefts xs Z.1
-  lefts (lend_shr p S ys e ∷ xs) Z = (‵ (Own S ys), ‵ (Tok S)) ∷ lefts xs Z
-  lefts (pass_shr p S ys e ∷ xs) Z = (‵ (Shr S ys), ‵ (Tok S)) ∷ lefts xs Z
+  lefts (lend_shr cp p S ys e ∷ xs) Z = (‵ (Own S ys), ‵ (Tok S)) ∷ lefts xs Z
+  lefts (pass_shr cp p S ys e ∷ xs) Z = (‵ (Shr S ys), ‵ (Tok S)) ∷ lefts xs Z
 
   abbrev laid : List Pass → List (Item 𝓤 × Item 𝓤) → List (Item 𝓤) → List (Item 𝓤)
   laid [] is Γ = Γ
@@ -265,8 +272,8 @@ module _ {M : Type 1} {𝓤 : Ura M} (𝓛 : Logic 𝓤) where
   abbrev pub left_at : (xs : List Pass) → Lefts (taken xs) → List (Item 𝓤) → List (Item 𝓤)
   left_at [] Z Γ = Γ
   left_at (lend_mut p S ys e ∷ xs) Z Γ = left_at xs Z.1 (put 𝓛 (twice p) (‵ (Own S Z.0)) Γ)
-  left_at (lend_shr p S ys e ∷ xs) Z Γ = left_at xs Z Γ
-  left_at (pass_shr p S ys e ∷ xs) Z Γ = left_at xs Z Γ
+  left_at (lend_shr cp p S ys e ∷ xs) Z Γ = left_at xs Z Γ
+  left_at (pass_shr cp p S ys e ∷ xs) Z Γ = left_at xs Z Γ
 
   -- that each slice stands at its number, and that the context with the lists of Z is what it is where they are put back one by one
   abbrev pub Stand : (xs : List Pass) → List (Item 𝓤) → Type 2
@@ -339,8 +346,8 @@ module _ {M : Type 1} {𝓤 : Ura M} (𝓛 : Logic 𝓤) where
     given_is : (xs : List Pass) (i : ℕ) (π : Lfts n → Lfts (lives (taken xs))) (c : Choices xs) → lists_of n ks κs (taken xs) i π (refs xs i π c) ≡ given xs
     given_is [] i π c = refl
     given_is (lend_mut p S ys e ∷ xs) i π c = ap (λ (X : Lists (taken xs)). (ys, X)) (given_is xs (suc i) (λ κs. (π κs).1) c.1)
-    given_is (lend_shr p S ys e ∷ xs) i π c = ap (λ (X : Lists (taken xs)). (ys, X)) (given_is xs (suc i) (λ κs. (π κs).1) c.1)
-    given_is (pass_shr p S ys e ∷ xs) i π c = ap (λ (X : Lists (taken xs)). (ys, X)) (given_is xs (suc i) (λ κs. (π κs).1) c.1)
+    given_is (lend_shr cp p S ys e ∷ xs) i π c = ap (λ (X : Lists (taken xs)). (ys, X)) (given_is xs (suc i) (λ κs. (π κs).1) c.1)
+    given_is (pass_shr cp p S ys e ∷ xs) i π c = ap (λ (X : Lists (taken xs)). (ys, X)) (given_is xs (suc i) (λ κs. (π κs).1) c.1)
 
     plain_is : (xs : List Pass) (i : ℕ) (π : Lfts n → Lfts (lives (taken xs))) (c : Choices xs) → plains_of n ks κs (taken xs) i π (refs xs i π c) ≡ b
     plain_is [] i π c = refl
@@ -406,11 +413,11 @@ module _ {M : Type 1} {𝓤 : Ura M} (𝓛 : Logic 𝓤) where
     comes : (xs : List Pass) (i : ℕ) (π : Lfts n → Lfts (lives (taken xs))) (c : Choices xs) → π κs ≡ lives_of xs c → (ws : LastsFor xs i π c) → Comes xs i π c ws
     comes [] i π c e ws = via 𝓤 _ (via 𝓤 _ (top 𝓤 _) (guard_i 𝓤 (Unit {0}) (emp 𝓤) tt)) (𝓛.laws.⇛_intro _)
     comes (lend_mut p S ys l ∷ xs) i π c e ws = one_comes (lend_mut p S ys l) xs i π c e ws.0 ws.1 (λ long others. (long, others)) (comes xs (suc i) (λ κs. (π κs).1) c.1 (ap (λ v. v.1) e) ws.1)
-    comes (lend_shr p S ys l ∷ xs) i π c e ws = one_comes (lend_shr p S ys l) xs i π c e ws.0 ws.1 (λ _ others. others) (comes xs (suc i) (λ κs. (π κs).1) c.1 (ap (λ v. v.1) e) ws.1)
-    comes (pass_shr p S ys l ∷ xs) i π c e ws = one_comes (pass_shr p S ys l) xs i π c e ws.0 ws.1 (λ _ others. others) (comes xs (suc i) (λ κs. (π κs).1) c.1 (ap (λ v. v.1) e) ws.1)
+    comes (lend_shr cp p S ys l ∷ xs) i π c e ws = one_comes (lend_shr cp p S ys l) xs i π c e ws.0 ws.1 (λ _ others. others) (comes xs (suc i) (λ κs. (π κs).1) c.1 (ap (λ v. v.1) e) ws.1)
+    comes (pass_shr cp p S ys l ∷ xs) i π c e ws = one_comes (pass_shr cp p S ys l) xs i π c e ws.0 ws.1 (λ _ others. others) (comes xs (suc i) (λ κs. (π κs).1) c.1 (ap (λ v. v.1) e) ws.1)
 
 -- ---- the call
-module _ {M : Type 1} {𝓤 : Ura M} {𝓛 : Logic 𝓤} {K : Type 0} {Γ : List (Item 𝓤)} {E : Env 𝓤 𝓛.H} {P : Post 𝓤 𝓛.H} {f : Name} {xs : List Operand} {d : Place} {B : Body} where
+module _ {M : Type 1} {𝓤 : Ura M} {𝓛 : Logic 𝓤} {K : Type 0} {Γ : List (Item 𝓤)} {E : Env 𝓤 𝓛.H} {P : Post 𝓤 𝓛.H} {f : Callee} {xs : List Operand} {d : Place} {B : Body} where
   -- that the slices stand at their numbers is `λ _. refl`
   open 𝓛 use {H}
 
@@ -458,7 +465,7 @@ module _ {M : Type 1} {𝓤 : Ura M} {𝓛 : Logic 𝓤} {K : Type 0} {Γ : List
   joined : (P R : SProp 𝓤) → Opds K 𝓛 (raw (sep 𝓤 P R) ∷ Γ) E xs vs → Opds K 𝓛 (raw P ∷ raw R ∷ Γ) E xs vs
   joined P R o = record { go = λ Kt h. via 𝓤 _ (pack⊢ 𝓛 (raw P ∷ raw R ∷ []) Γ) (o.go Kt (via 𝓤 _ (unpack⊢ 𝓛 (raw P ∷ raw R ∷ []) Γ) h)) }
 
-module _ {M : Type 1} {𝓤 : Ura M} {𝓛 : Logic 𝓤} {K : Type 0} {Γ : List (Item 𝓤)} {E : Env 𝓤 𝓛.H} {P : Post 𝓤 𝓛.H} {f : Name} {xs : List Operand} {d : Place} {B : Body} where
+module _ {M : Type 1} {𝓤 : Ura M} {𝓛 : Logic 𝓤} {K : Type 0} {Γ : List (Item 𝓤)} {E : Env 𝓤 𝓛.H} {P : Post 𝓤 𝓛.H} {f : Callee} {xs : List Operand} {d : Place} {B : Body} where
   open 𝓛 use {H}
 
   module _ (𝓣 : Tables 𝓤 H) {R : RattleType} (S : View R) (ys : List R.Denot) where
@@ -468,23 +475,23 @@ module _ {M : Type 1} {𝓤 : Ura M} {𝓛 : Logic 𝓤} {K : Type 0} {Γ : List
         → Seq K 𝓛 (‵ (Own S ys) ∷ ‵ (Tok S) ∷ Γ) (runs 𝓣.C 𝓣.Λ E B P)
     calls_mut t s F known a are l pre os k = calls_slices t 𝓣 (lend_mut 0 S ys l ∷ []) (λ _. refl) s (of_mut F) known a are (met_in (λ X. X.0) (ys, tt) a F.asks pre) (λ P' R'. hidden P' (raw R' ∷ ‵ ftrue ∷ ‵ ftrue ∷ []) (os _ _)) (λ r Z is ty long e. k r Z.0 is ty long.0 e)
 
-    pub calls_shared : K → (s : Site f xs d B) (F : ShrFn R) → Triple 𝓤 (𝓣.C f) (ContractSlices (of_shr F) 𝓛) → (a : Data F.takes) → Known F.takes a → length ys ≡ S.count → Met F.asks ys a
+    pub calls_shared : K → Copies R → (s : Site f xs d B) (F : ShrFn R) → Triple 𝓤 (𝓣.C f) (ContractSlices (of_shr F) 𝓛) → (a : Data F.takes) → Known F.takes a → length ys ≡ S.count → Met F.asks ys a
         → ((P' R' : SProp 𝓤) → Opds K 𝓛 (raw P' ∷ raw R' ∷ Γ) E xs (fat S ∷ machine F.takes a))
         → ((r : F.gives.row.Denot) → Is F.gives.row r (F.gives.val r ∷ []) → Typed F.gives.row.mir (F.gives.val r ∷ []) → F.says ys a r → Seq K 𝓛 (‵ (Own S ys) ∷ ‵ (Tok S) ∷ Γ) (landing s 𝓣.C 𝓣.Λ E (F.gives.val r) P))
         → Seq K 𝓛 (‵ (Own S ys) ∷ ‵ (Tok S) ∷ Γ) (runs 𝓣.C 𝓣.Λ E B P)
-    calls_shared t s F known a are l pre os k = calls_slices t 𝓣 (lend_shr 0 S ys l ∷ []) (λ _. refl) s (of_shr F) known a are (met_in (λ X. X.0) (ys, tt) a F.asks pre) (λ P' R'. hidden P' (raw R' ∷ ‵ ftrue ∷ ‵ ftrue ∷ []) (os _ _)) (λ r _ is ty _ e. k r is ty e)
+    calls_shared t cp s F known a are l pre os k = calls_slices t 𝓣 (lend_shr cp 0 S ys l ∷ []) (λ _. refl) s (of_shr F) known a are (met_in (λ X. X.0) (ys, tt) a F.asks pre) (λ P' R'. hidden P' (raw R' ∷ ‵ ftrue ∷ ‵ ftrue ∷ []) (os _ _)) (λ r _ is ty _ e. k r is ty e)
 
-    pub calls_shr : K → (s : Site f xs d B) (F : ShrFn R) → Triple 𝓤 (𝓣.C f) (ContractSlices (of_shr F) 𝓛) → (a : Data F.takes) → Known F.takes a → length ys ≡ S.count → Met F.asks ys a
+    pub calls_shr : K → Copies R → (s : Site f xs d B) (F : ShrFn R) → Triple 𝓤 (𝓣.C f) (ContractSlices (of_shr F) 𝓛) → (a : Data F.takes) → Known F.takes a → length ys ≡ S.count → Met F.asks ys a
         → ((P' R' : SProp 𝓤) → Opds K 𝓛 (raw P' ∷ raw R' ∷ Γ) E xs (fat S ∷ machine F.takes a))
         → ((r : F.gives.row.Denot) → Is F.gives.row r (F.gives.val r ∷ []) → Typed F.gives.row.mir (F.gives.val r ∷ []) → F.says ys a r → Seq K 𝓛 (‵ (Shr S ys) ∷ ‵ (Tok S) ∷ Γ) (landing s 𝓣.C 𝓣.Λ E (F.gives.val r) P))
         → Seq K 𝓛 (‵ (Shr S ys) ∷ ‵ (Tok S) ∷ Γ) (runs 𝓣.C 𝓣.Λ E B P)
-    calls_shr t s F known a are l pre os k = calls_slices t 𝓣 (pass_shr 0 S ys l ∷ []) (λ _. refl) s (of_shr F) known a are (met_in (λ X. X.0) (ys, tt) a F.asks pre) (λ P' R'. hidden P' (raw R' ∷ ‵ ftrue ∷ ‵ ftrue ∷ []) (os _ _)) (λ r _ is ty _ e. k r is ty e)
+    calls_shr t cp s F known a are l pre os k = calls_slices t 𝓣 (pass_shr cp 0 S ys l ∷ []) (λ _. refl) s (of_shr F) known a are (met_in (λ X. X.0) (ys, tt) a F.asks pre) (λ P' R'. hidden P' (raw R' ∷ ‵ ftrue ∷ ‵ ftrue ∷ []) (os _ _)) (λ r _ is ty _ e. k r is ty e)
 
-    pub calls_both : K → {D : RattleType} (O : View D) (os : List D.Denot) (s : Site f xs d B) (F : BothFn R D) → Triple 𝓤 (𝓣.C f) (ContractSlices (of_both F) 𝓛) → (a : Data F.takes) → Known F.takes a → length ys ≡ S.count → length os ≡ O.count → Met F.asks (ys, os) a
+    pub calls_both : K → Copies R → {D : RattleType} (O : View D) (os : List D.Denot) (s : Site f xs d B) (F : BothFn R D) → Triple 𝓤 (𝓣.C f) (ContractSlices (of_both F) 𝓛) → (a : Data F.takes) → Known F.takes a → length ys ≡ S.count → length os ≡ O.count → Met F.asks (ys, os) a
         → ((P' R' : SProp 𝓤) → Opds K 𝓛 (raw P' ∷ raw R' ∷ Γ) E xs (fat S ∷ fat O ∷ machine F.takes a))
         → ((r : F.gives.row.Denot) (zs : List D.Denot) → Is F.gives.row r (F.gives.val r ∷ []) → Typed F.gives.row.mir (F.gives.val r ∷ []) → length zs ≡ O.count → F.says ys os a r zs → Seq K 𝓛 (‵ (Shr S ys) ∷ ‵ (Tok S) ∷ ‵ (Own O zs) ∷ ‵ (Tok O) ∷ Γ) (landing s 𝓣.C 𝓣.Λ E (F.gives.val r) P))
         → Seq K 𝓛 (‵ (Shr S ys) ∷ ‵ (Tok S) ∷ ‵ (Own O os) ∷ ‵ (Tok O) ∷ Γ) (runs 𝓣.C 𝓣.Λ E B P)
-    calls_both t O os s F known a are l l-o pre opds k = calls_slices t 𝓣 (pass_shr 0 S ys l ∷ lend_mut 1 O os l-o ∷ []) (λ _. refl) s (of_both F) known a are (met_in (λ X. (X.0, X.1.0)) (ys, (os, tt)) a F.asks pre)
+    calls_both t cp O os s F known a are l l-o pre opds k = calls_slices t 𝓣 (pass_shr cp 0 S ys l ∷ lend_mut 1 O os l-o ∷ []) (λ _. refl) s (of_both F) known a are (met_in (λ X. (X.0, X.1.0)) (ys, (os, tt)) a F.asks pre)
         (λ P' R'. hidden P' (raw R' ∷ ‵ ftrue ∷ ‵ ftrue ∷ ‵ ftrue ∷ ‵ ftrue ∷ []) (opds _ _)) (λ r Z is ty long e. k r Z.0 is ty long.0 e)
 
   -- of a function with no slice

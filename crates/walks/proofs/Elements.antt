@@ -6,7 +6,7 @@ use mathlib.Core.List.{List, [], ◌∷◌}
 use lib.Dec.{T}
 use lib.ListN.{length, get_or, set, length-set}
 use seplogic.Ra.Ura.{Ura}
-use seplogic.Ra.TreeShare.{full_share}
+use base.Fraction.{full_share}
 use mir.Syntax.{Ty, Body, place, deref, copy, rv_opd, seq, assign}
 use mir.Val.{Val, vptr, has_ty, WT}
 use mir.Raw.{raw as raw_ty}
@@ -16,11 +16,12 @@ use types.Logic.{Logic}
 use types.Kit.{Item, ‵, Post, runs, nth, put, Seq, ◌$◌, move, drop, use0, rewrite, fsplit, fjoin}
 use types.Run.{look, look_raw, store_raw, init, stop, hop, from, load, of_opd, assigns}
 use denote.Shadow.{pure_l, pure_i}
-use denote.Laws.{Is, Typed, Copy, shows}
+use denote.Copied.{Copied}
+use denote.Laws.{Is, Typed, shows}
 use denote.Memory.{mem, cell_at}
-use denote.Slice.{slice_val, Room, mut_slice_at}
+use denote.Slice.{slice_val, Room, mut_slice_at, shr_slice_at}
 use denote.Index.{place as spot, place_is, elem_out, elem_back, elem_put, opens_slice, closes_slice, looks_slice, shuts_slice}
-use Rattle.walks.proofs.Lend.{View, fat as wide, named_at, Tok, Own, Shr}
+use Rattle.walks.proofs.Lend.{View, fat as wide, named_at, bor_at, Tok, Own, Shr}
 use Rattle.walks.proofs.Values.{Datum}
 use Rattle.walks.proofs.Locals.{index}
 
@@ -32,7 +33,7 @@ module _ {M : Type 1} {𝓤 : Ura M} {𝓛 : Logic 𝓤} {K : Type 0} {Γ : List
   -- the local y is the pointer, and x the one that is given the element
   open 𝓛 use {H}
 
-  pub reads_at : K → (k : Datum) → Lone k τ → Copy 𝓛 k.row → (S : View k.row) (ys : List k.row.Denot) (i : ℕ) (e : k.row.Denot) → i < length ys → length ys ≡ S.count → {x y : ℕ}
+  pub reads_at : K → (k : Datum) → Lone k τ → Copied 𝓛 k.row → (S : View k.row) (ys : List k.row.Denot) (i : ℕ) (e : k.row.Denot) → i < length ys → length ys ≡ S.count → {x y : ℕ}
       → nth 𝓛 (index y Γ) Γ ≡ ‵ (fat full_share (spot_of 𝓤 H E y).0 (spot_of 𝓤 H E y).1 zero (vptr S.block (i * (mem k.row).size + S.offset))) → nth 𝓛 (index x Γ) Γ ≡ ‵ (froom (spot_of 𝓤 H E x).0 (spot_of 𝓤 H E x).1 zero)
       → (Typed k.row.mir (k.val (get_or ys i e) ∷ []) → T (has_ty (spot_of 𝓤 H E x).0 (k.val (get_or ys i e))) × WT (k.val (get_or ys i e)))
       → (Is k.row (get_or ys i e) (k.val (get_or ys i e) ∷ []) → Typed k.row.mir (k.val (get_or ys i e) ∷ []) → Seq K 𝓛 (‵ (Shr S ys) ∷ ‵ (Tok S) ∷ put 𝓛 (index x Γ) (‵ (fat full_share (spot_of 𝓤 H E x).0 (spot_of 𝓤 H E x).1 zero (k.val (get_or ys i e)))) Γ) (runs C Λ E rest P))
@@ -43,15 +44,15 @@ module _ {M : Type 1} {𝓤 : Ura M} {𝓛 : Logic 𝓤} {K : Type 0} {Γ : List
       let at : ℕ = spot (mem k.row).size o i in
       let ep = ep' ∙ ap (λ (p : ℕ). ‵ (fat full_share (spot_of 𝓤 H E y).0 (spot_of 𝓤 H E y).1 zero (vptr b p))) (sym (place_is (mem k.row).size o i)) in
       let v : Val = k.val (get_or ys i e) in
-      fsplit t $ pure_l t (mut_slice_at k.row (named_at S S.name ys) (wide S ∷ [])) (λ fact. fsplit t $ move t (1 ∷ 2 ∷ []) $
-      looks_slice t tt k.row (Is k.row) (shows 𝓛 k.row) (λ x. k.val x ∷ []) k.tells cp ys b o (λ q.
+      fsplit t $ pure_l t (shr_slice_at k.row (bor_at S ys) (wide S ∷ [])) (λ fact.
+      looks_slice t tt k.row cp ys b o (λ q.
       elem_out t k.row (Is k.row) (shows 𝓛 k.row) (λ x. k.val x ∷ []) k.tells q ys i e b o l (λ is.
       let ty = (k.lawful 𝓛).typed (get_or ys i e) (v ∷ []) is in
       rewrite t 0 (λ (F : Fml). ‵ F) (lone q v b at) refl $
-      -- [the element; what it owns; the others; what shuts; the fractured borrow; res; Γ]
-      assigns t (of_opd t (load t (from t (hop t (look t (suc (suc (suc (suc (suc (suc (index y Γ))))))) ep) (stop t))) (look_raw t 0 refl))) (from t (stop t)) (init t (suc (suc (suc (suc (suc (suc (index x Γ))))))) en (suits ty)) $
+      -- [the element; what it owns; the others; what shuts; what the `&` holds; Γ]
+      assigns t (of_opd t (load t (from t (hop t (look t (suc (suc (suc (suc (suc (index y Γ)))))) ep) (stop t))) (look_raw t 0 refl))) (from t (stop t)) (init t (suc (suc (suc (suc (suc (index x Γ)))))) en (suits ty)) $
       rewrite t 0 (λ (F : Fml). ‵ F) (sym (lone q v b at)) refl $ elem_back t k.row q ys i e (v ∷ []) b o l $ shuts_slice t tt k.row q ys b o $
-      move t (2 ∷ 1 ∷ []) $ fjoin t $ pure_i t (mut_slice_at k.row (named_at S S.name ys) (wide S ∷ [])) (tt, (tt, tt)) fact $ fjoin t $ s is ty)))
+      move t (1 ∷ []) $ pure_i t (shr_slice_at k.row (bor_at S ys) (wide S ∷ [])) (tt, (tt, tt)) fact $ fjoin t $ s is ty)))
 
   -- the local x is the one whose value v is stored
   pub writes_at : K → (k : Datum) → Lone k τ → (S : View k.row) (ys : List k.row.Denot) (i : ℕ) (e v : k.row.Denot) → i < length ys → length ys ≡ S.count → Is k.row v (k.val v ∷ []) → {x y : ℕ}

@@ -11,7 +11,7 @@ use mathlib.Core.Bool.{Bool, true, false, not}
 use mathlib.Core.WellFounded.InvImage
 use lib.WfN.{lt-wf_rel}
 use seplogic.Ra.Ura.{Ura}
-use seplogic.Ra.TreeShare.{full_share}
+use base.Fraction.{full_share}
 use lib.Dec.{T}
 use mir.Syntax.{Opd as Operand, Body, Rv as RValue, place, copy, seq, assign, block, loop, cond, skip, exit}
 use mir.Val.{vbool}
@@ -66,5 +66,5 @@ module _ {M : Type 1} {𝓤 : Ura M} {𝓛 : Logic 𝓤} {K : Type 0} where
         G x = any_q (after_turn 𝓤 H (Below 𝓛 (λ y x. μ y < μ x) I x) (after_block 𝓤 H (after_seq 𝓤 H (Wp 𝓤 H 𝓣.C 𝓣.Λ E rest (post 𝓤 H q)) (post 𝓤 H q))))
 
         decide : (x : X) (y : Bool) → test x ≡ y → Seq K 𝓛 (with 𝓛 (I x) E k (vbool y)) (runs 𝓣.C 𝓣.Λ E (seq (cond (copy (place k [])) skip (exit 1)) turn) (G x))
-        decide x true e = stays t (load t (from t (stop t)) (looked t k (there x true))) $ more x e (G x) refl (λ y l. record { prf = (again {W = 𝓛} t (λ y x. μ y < μ x) I x y l).prf })
+        decide x true e = stays t (load t (from t (stop t)) (looked t k (there x true))) $ more x e (G x) refl (λ y l. record { prf = (again {𝓛 = 𝓛} t (λ y x. μ y < μ x) I x y l).prf })
         decide x false e = leaves_loop t (load t (from t (stop t)) (looked t k (there x false))) $ record { prf = (done x e).prf }

@@ -12,13 +12,13 @@ use Prim.Native.Nat.{ℕ, zero, suc, ◌+◌}
 use mathlib.Core.List.{List, [], ◌∷◌, ◌++◌, map}
 use mathlib.Core.Option.{some as just}
 use seplogic.Ra.Ura.{Ura}
-use seplogic.Ra.TreeShare.{full_share}
+use base.Fraction.{full_share}
 use lib.Dec.{T}
 use mir.Syntax.{Sym, Ty, Tys, ty_struct, Opd as Operand, Local, local, Fn, Body, Rv as RValue, place, field, copy, seq, assign, return}
 use mir.Val.{Val, Vals, vstruct, has_ty, WT}
 use mir.Fields.{get_v, set_v}
 use base.Logic.{SProp, ent, via, assoc∗, assoc', mono_l, mono_r, snd∗, emp∗}
-use base.Fml.{Share, Fml, ftrue, ffalse, feq, flt, fsep, fand, for, fwand, fex, fall, fupd, fat, froom, fdies, flft, fdead, fobs, fauth, fres, fbor, fobor, flent, fshr_bor}
+use base.Fml.{Share, Fml, ftrue, ffalse, feq, flt, fsep, fand, for, fwand, fex, fall, fupd, fhide, fat, froom, fleft, fdies, flft, fdead, fobs, fauth, fres, fown, fbor, fobor, flent, fshr_bor, finv, fnamed, ftok, fkid, fme, fsent}
 use prog.Memory.{field_at}
 use prog.Wp.{Env, Calls, Loops, WpFn, Spot, spot_of, at_return, next, returns as returnsᴼ}
 use types.Logic.{Logic, sem}
@@ -107,18 +107,27 @@ seen (fwand x y) = else
 seen (fex x y) = else
 seen (fall x y) = else
 seen (fupd x) = else
+seen (fhide x) = else
 seen (fat q τ b o v) = at (τ, b) (has v)
 seen (froom τ b o) = at (τ, b) none
+seen (fleft q τ τs b o) = else
 seen (fdies x y) = else
 seen (flft x y) = else
 seen (fdead x) = else
 seen (fobs x y) = else
 seen (fauth x y) = else
 seen (fres x y) = else
+seen (fown R x y) = else
 seen (fbor x y) = else
 seen (fobor x y z) = else
 seen (flent x y) = else
 seen (fshr_bor x y) = else
+seen (finv x) = else
+seen (fnamed x y) = else
+seen (ftok x) = else
+seen (fkid x y) = else
+seen (fme x) = else
+seen (fsent x) = else
 
 abbrev pick {ℓ} : {X : Type ℓ} → Seen → (Ty × ℕ → Cell → X) → X → X
 pick else f x = x
@@ -250,22 +259,22 @@ module _ {M : Type 1} {𝓤 : Ura M} {𝓛 : Logic 𝓤} {K : Type 0} where
   emptied t e (has v) = forget t 0 refl
 
   laid : K → {Γ : List (Item 𝓤)} (ls : List Local) {Kt : Env 𝓤 H → Goal 𝓤 H} → ((bs : Blocks ls) → Seq K 𝓛 (‵ (lay (env ls bs) []) ∷ ‵ (deaths (env ls bs)) ∷ Γ) (Kt (env ls bs))) → Seq K 𝓛 Γ (allocs ls Kt)
-  laid t [] k = alloc0 t $ nothing t $ nothing t $ k tt
-  laid t (local τ h ∷ ls) k = alloc1 t (λ b. laid t ls (λ bs. move t (2 ∷ 0 ∷ []) $ fjoin t $ move t (2 ∷ 1 ∷ 0 ∷ []) $ fjoin t $ move t (1 ∷ 0 ∷ []) $ k (b, bs)))
+  laid t {Γ} [] k = alloc0 t $ nothing t $ nothing t $ k tt
+  laid t {Γ} (local τ h ∷ ls) k = alloc1 t (λ b. laid t {Γ = ‵ (froom τ b 0) ∷ ‵ (fdies τ b) ∷ Γ} ls (λ bs. move t (2 ∷ 0 ∷ []) $ fjoin t $ move t (2 ∷ 1 ∷ 0 ∷ []) $ fjoin t $ move t (1 ∷ 0 ∷ []) $ k (b, bs)))
 
   passed : K → {Γ : List (Item 𝓤)} (E : List (Ty × ℕ)) (vs : List Val) {g : Goal 𝓤 H} → Suits E vs → Step K 𝓛 (‵ (lay E (stored vs)) ∷ Γ) g (‵ (lay E []) ∷ Γ) (passes E vs g)
-  passed t E [] su = pass0 t
-  passed t [] (v ∷ vs) su = absurd su
-  passed t (e ∷ E) (v ∷ vs) su = step (λ s. fsplit t $ pass1 t (init t 0 refl su.0) $ move t (1 ∷ 0 ∷ []) $ passed t E vs su.1 $ move t (1 ∷ 0 ∷ []) $ fjoin t $ s)
+  passed t {Γ} E [] su = pass0 t
+  passed t {Γ} [] (v ∷ vs) su = absurd su
+  passed t {Γ} (e ∷ E) (v ∷ vs) su = step (λ s. fsplit t $ pass1 t (init t 0 refl su.0) $ move t (1 ∷ 0 ∷ []) $ passed t {Γ = ‵ (fat full_share e.0 e.1 zero v) ∷ Γ} E vs su.1 $ move t (1 ∷ 0 ∷ []) $ fjoin t $ s)
 
   freed : K → {Γ : List (Item 𝓤)} (E : List (Ty × ℕ)) (cs : List Cell) {g : Goal 𝓤 H} → Step K 𝓛 Γ g (‵ (lay E cs) ∷ ‵ (deaths E) ∷ Γ) (frees E g)
   freed t [] cs = step (λ s. drop t $ drop t $ free0 t $ s)
   freed t (e ∷ E) cs = step (λ s. fsplit t $ emptied t e (first cs) $ move t (2 ∷ []) $ fsplit t $ move t (2 ∷ 0 ∷ []) $ free1 t $ move t (1 ∷ 0 ∷ []) $ freed t E (others cs) $ s)
 
   kept : K → {Γ : List (Item 𝓤)} {G : Goal 𝓤 H} (n : ℕ) (E : List (Ty × ℕ)) (cs : List Cell) → Step K 𝓛 (‵ (lay E (only n cs)) ∷ Γ) G (‵ (lay E cs) ∷ Γ) G
-  kept t n [] cs = step (λ s. s)
-  kept t zero (e ∷ E) cs = step (λ s. fsplit t $ emptied t e (first cs) $ move t (1 ∷ 0 ∷ []) $ kept t zero E (others cs) $ move t (1 ∷ 0 ∷ []) $ fjoin t $ s)
-  kept t (suc n) (e ∷ E) cs = step (λ s. fsplit t $ move t (1 ∷ 0 ∷ []) $ kept t n E (others cs) $ move t (1 ∷ 0 ∷ []) $ fjoin t $ s)
+  kept t {Γ} n [] cs = step (λ s. s)
+  kept t {Γ} zero (e ∷ E) cs = step (λ s. fsplit t $ emptied t e (first cs) $ move t (1 ∷ 0 ∷ []) $ kept t {Γ = ‵ (cell e none) ∷ Γ} zero E (others cs) $ move t (1 ∷ 0 ∷ []) $ fjoin t $ s)
+  kept t {Γ} (suc n) (e ∷ E) cs = step (λ s. fsplit t $ move t (1 ∷ 0 ∷ []) $ kept t {Γ = ‵ (cell e (first cs)) ∷ Γ} n E (others cs) $ move t (1 ∷ 0 ∷ []) $ fjoin t $ s)
 
   -- a function's result is local 0, and its parameters are the locals after it
   pub starts : K → (Δ : List (Item 𝓤)) (C : Calls 𝓤 H) (Λ : Loops 𝓤 H) (f : Fn) (vs : List Val) (Kf : Val → SProp 𝓤) (l : Local) (ls : List Local) → f.locals ≡ l ∷ ls

@@ -13,21 +13,22 @@ use seplogic.Ra.Ura.{Ura}
 use mir.Syntax.{Ty, Local, Fn, named}
 use mir.Val.{Val}
 use base.Logic.{SProp, ent, sep, emp, id⊢, via, mono_r, fst∗, emp∗}
-use base.Fml.{Lft, Fml, ftrue, fsep, fres}
+use base.Fml.{Lft, Fml, ftrue, fsep, fres, fbor}
 use prog.Model.{Model}
-use prog.Routine.{Name, Env}
+use prog.Routine.{Callee, Env}
 use prog.Wp.{WpFn, Tables, Closed}
 use types.Logic.{Logic, sem}
 use contract.Monad.{top, fact, fact_i}
 use contract.Lifetimes.{Lfts, Shares, toks}
 use contract.Running.{Running, tables, tables_of}
-use types.Kit.{Item, ‵, raw, ◌⊛◌, prop, runs, at_ret, Sq, ◌$◌, ◌∵◌, !, qed, by, push, pop, ⋆, move, use0, use1, split, join, fsplit, fjoin, feq_i, frame, updating, now as at_once, keep, suffices, done}
+use types.Kit.{Item, ‵, raw, ◌⊛◌, prop, runs, at_ret, Sq, ◌$◌, ◌∵◌, !, qed, by, push, pop, ⋆, move, use0, use1, split, join, fsplit, fjoin, feq_i, frame, updating, now as at_once, keep, suffices, rewrite, done}
 use sound.WpLaws.{WpFn-mono}
 use denote.RattleType.{RattleType, Denots, Valss, flat, mirs, owns}
 use denote.Exit.{Exit, unchanged, Last, left, yes}
 use denote.Laws.{Is, Ises, Are, Spells, Tellss, Lawfuls, Typed, valss, all_Typed}
 use denote.Ref.{at_last}
-use denote.Slice.{slice_val, MutSlice, ShrSlice, shr_slice_vals, mut_slice_Tells, shr_slice_Tells, mut_slice_Lawful, shr_slice_Lawful, finally, res-finally, coded_holeys, heres}
+use denote.Lend.{Held}
+use denote.Slice.{slice_val, MutSlice, ShrSlice, shr_slice_vals, mut_slice_vals, mut_slice_Tells, shr_slice_Tells, mut_slice_Lawful, shr_slice_Lawful, finally, res-finally, coded_holeys, heres}
 use denote.Signature.{plain}
 use denote.Steps.{nothing}
 use denote.Triple.Entry.{on_entry}
@@ -146,7 +147,7 @@ module _ (n : ℕ) (ks : List Datum) where
     abbrev spells_in : (ls : List Lent) (i : ℕ) (π : Lfts n → Lfts (lives ls)) → Spells (types_of n ks κs ls i π)
     spells_in [] i π = spells_of n ks κs
     spells_in (shr R ∷ ls) i π = (shr_slice_vals, spells_in ls (suc i) (λ κs. (π κs).1))
-    spells_in (mut R ∷ ls) i π = (shr_slice_vals, spells_in ls (suc i) (λ κs. (π κs).1))
+    spells_in (mut R ∷ ls) i π = (mut_slice_vals, spells_in ls (suc i) (λ κs. (π κs).1))
 
     abbrev tells_in : (ls : List Lent) (i : ℕ) (π : Lfts n → Lfts (lives ls)) → Tellss (types_of n ks κs ls i π) (Ises (types_of n ks κs ls i π)) (spells_in ls i π)
     tells_in [] i π = tells_of n ks κs
@@ -163,7 +164,7 @@ module _ (n : ℕ) (ks : List Datum) where
     abbrev views_of : (ls : List Lent) (i : ℕ) (π : Lfts n → Lfts (lives ls)) → Shares (lives ls) → (a : Denots (types_of n ks κs ls i π)) → AreIn ls i π a → Views ls
     views_of [] i π qs a are = tt
     views_of (shr R ∷ ls) i π qs a are =
-        (record { life = (π κs).0; share = qs.0; block = a.0.ref_ptr.0; offset = a.0.ref_ptr.1; name = a.0.ghost_name; count = length a.0.now; room = are.0.0.1 }, views_of ls (suc i) (λ κs. (π κs).1) qs.1 a.1 are.1)
+        (record { life = (π κs).0; share = qs.0; block = a.0.ref_ptr.0; offset = a.0.ref_ptr.1; name = 0; count = length a.0.now; room = are.0.0.1 }, views_of ls (suc i) (λ κs. (π κs).1) qs.1 a.1 are.1)
     views_of (mut R ∷ ls) i π qs a are =
         (record { life = (π κs).0; share = qs.0; block = a.0.ref_ptr.0; offset = a.0.ref_ptr.1; name = a.0.ghost_name; count = length a.0.now; room = are.0.0.1 }, views_of ls (suc i) (λ κs. (π κs).1) qs.1 a.1 are.1)
 
@@ -213,7 +214,8 @@ module _ (n : ℕ) (ks : List Datum) where
         qed 𝓛 (‵ ((MutSlice (named i) (κ κs) R).own_val (at_last x f) vs) ∷ []) ∵ updating ! $ at_once ! $ fsplit ! $ move ! (1 ∷ []) $ fsplit ! $
         use1 𝓛 (‵ (fres x.ghost_name ((coded_holeys R).code (heres R f)))) (𝓛.names.obs-res x.ghost_name ((coded_holeys R).code (heres R f))) $
         use1 𝓛 (‵ (finally R x.ghost_name f)) (res-finally 𝓛 (named i) (κ κs) R x.ghost_name f) $
-        keep ! (0 ∷ []) $ feq_i ! ℕ (length f) (length x.now) fits $ move ! (1 ∷ 0 ∷ []) $ fjoin ! $ done !
+        rewrite ! 1 (λ (m : ℕ). ‵ (fbor (κ κs) (Held R m x.ref_ptr.0 x.ref_ptr.1 x.ghost_name))) fits refl $
+        keep ! (0 ∷ 1 ∷ []) $ feq_i ! ℕ (length f) (length x.now) fits $ move ! (1 ∷ 0 ∷ []) $ fjoin ! $ done !
 
     goes_in : (ls : List Lent) (i : ℕ) (π : Lfts n → Lfts (lives ls)) → AllGo 𝓛 n (params_of n ks ls i π) (all yes (params_of n ks ls i π)) (stays_in ls i π)
     goes_in [] i π = goes_of 𝓛 n ks
@@ -328,7 +330,7 @@ module _ {M : Type 1} {𝓤 : Ura M} (𝓛 : Logic 𝓤) {R : RattleType} (𝓣 
       → Sq 𝓛 (‵ (Shr S ys) ∷ ‵ (Tok S) ∷ ‵ (Own O os) ∷ ‵ (Tok O) ∷ slots (env (l ∷ locals) bs) (none ∷ has (fat S) ∷ has (fat O) ∷ stored (machine F.takes a)) (‵ (deaths (env (l ∷ locals) bs)) ∷ [])) (runs 𝓣.C 𝓣.Λ (env (l ∷ locals) bs) fn.body (at_ret (env (l ∷ locals) bs) Q))
 
 -- so a function's entry meets its contract, from what its `Code` has
-module _ {M : Type 1} {𝓤 : Ura M} (𝓛 : Logic 𝓤) (𝓜 : Model 𝓤 𝓛.H) (𝓡 : Running 𝓤 𝓛.H 𝓜) (γ : Env) (key : Name) (fn : Fn) (l : Local) (locals : List Local) (closed : Closed 𝓤 𝓛.H (tables 𝓤 𝓛.H 𝓜 𝓡 γ).C (tables 𝓤 𝓛.H 𝓜 𝓡 γ).Λ key fn) where
+module _ {M : Type 1} {𝓤 : Ura M} (𝓛 : Logic 𝓤) (𝓜 : Model 𝓤 𝓛.H) (𝓡 : Running 𝓤 𝓛.H 𝓜) (γ : Env) (key : Callee) (fn : Fn) (l : Local) (locals : List Local) (closed : Closed 𝓤 𝓛.H (tables 𝓤 𝓛.H 𝓜 𝓡 γ).C (tables 𝓤 𝓛.H 𝓜 𝓡 γ).Λ key fn) where
   open 𝓛 use {H}
 
   pub slices_proved : {ls : List Lent} (F : SlicesFn ls) → fn.locals ≡ l ∷ locals → SlicesSuits F locals → SlicesWalk 𝓛 (tables_of 𝓤 H 𝓜 (tables 𝓤 H 𝓜 𝓡 γ)) fn l locals F → Triple 𝓤 ((tables 𝓤 H 𝓜 𝓡 γ).C key) (ContractSlices F 𝓛)

@@ -1,5 +1,5 @@
 -- Types of plain data, as a walk knows them, and rows of values of such types.
---     Datum             a type of plain data: its machine value, that it is seen at exit as it was passed, and that what it owns is had for nothing
+--     Datum             a type of plain data: its machine value, that it is seen at exit as it was passed, that what it owns is had for nothing, and that a `&` to it can be made, read and passed on (`Copies`)
 --     usize', u8', u32', f32', bool', unit'      those of the language.        struct', enum'      a declared type, from the laws that Rattle makes of it
 --     struct_is, enum_is       the relation of a declared type, of a value that is put together
 --     Data ks, machine, Known      values of such types, their machine values, and their relations
@@ -17,6 +17,7 @@ use contract.Lifetimes.{Lfts}
 use denote.RattleType.{RattleType, Denots, Valss, flat, owns}
 use denote.Exit.{Kept, unchanged}
 use denote.Laws.{Is, Ises, Are, Tells, Tellss, Spells, valss, Makes, Makess, Lawful, Lawfuls, owns_make}
+use denote.Copied.{Copied, uint_Copied, float_Copied, bool_Copied, Nothing-Copied}
 use denote.Plain.{UInt, uint_Tells, uint_Makes, uint_Lawful, bool_Tells, bool_Makes, bool_Lawful, Nothing-Tells, Nothing-Makes, Nothing-Lawful}
 use denote.Floats.{float_Tells, float_Makes, float_Lawful}
 use denote.Builtin.{f32, bool, unit}
@@ -28,6 +29,10 @@ use denote.Enum.Enum.{Few, Plainss}
 use denote.Enum.Declared as Enum
 use denote.Enum.Laws as EnumLaws
 
+-- what Rattle asks of a type before a `&` to a value of it is made, read or passed on, in every model
+abbrev pub Copies : RattleType → Type 2
+Copies R = (M : Type 1) (𝓤 : Ura M) (𝓛 : Logic 𝓤) → Copied 𝓛 R
+
 pub record Datum : Type 3 where
   pub row : RattleType
   pub val : row.Denot → Val
@@ -35,10 +40,11 @@ pub record Datum : Type 3 where
   pub still : (k : Kept) → row.exit k ≡ unchanged
   pub makes : {M : Type 1} {𝓤 : Ura M} (𝓛 : Logic 𝓤) → Makes 𝓛 row (Is row)
   pub lawful : {M : Type 1} {𝓤 : Ura M} (𝓛 : Logic 𝓤) → Lawful 𝓛 row
+  pub copied : Copies row
 
 -- ---- the types of the language
 abbrev uint' : Width → Datum
-uint' w = record { row = UInt w; val = vint w; tells = uint_Tells w; still = λ _. refl; makes = λ 𝓛. uint_Makes 𝓛 w; lawful = λ 𝓛. uint_Lawful 𝓛 w }
+uint' w = record { row = UInt w; val = vint w; tells = uint_Tells w; still = λ _. refl; makes = λ 𝓛. uint_Makes 𝓛 w; lawful = λ 𝓛. uint_Lawful 𝓛 w; copied = λ M 𝓤 𝓛. uint_Copied 𝓛 w }
 
 abbrev pub u8' : Datum
 u8' = uint' w8
@@ -50,21 +56,21 @@ abbrev pub usize' : Datum
 usize' = uint' w64
 
 abbrev pub f32' : Datum
-f32' = record { row = f32; val = vfloat binary32; tells = float_Tells binary32; still = λ _. refl; makes = λ 𝓛. float_Makes 𝓛 binary32; lawful = λ 𝓛. float_Lawful 𝓛 binary32 }
+f32' = record { row = f32; val = vfloat binary32; tells = float_Tells binary32; still = λ _. refl; makes = λ 𝓛. float_Makes 𝓛 binary32; lawful = λ 𝓛. float_Lawful 𝓛 binary32; copied = λ M 𝓤 𝓛. float_Copied 𝓛 binary32 }
 
 abbrev pub bool' : Datum
-bool' = record { row = bool; val = vbool; tells = bool_Tells; still = λ _. refl; makes = λ 𝓛. bool_Makes 𝓛; lawful = λ 𝓛. bool_Lawful 𝓛 }
+bool' = record { row = bool; val = vbool; tells = bool_Tells; still = λ _. refl; makes = λ 𝓛. bool_Makes 𝓛; lawful = λ 𝓛. bool_Lawful 𝓛; copied = λ M 𝓤 𝓛. bool_Copied 𝓛 }
 
 abbrev pub unit' : Datum
-unit' = record { row = unit; val = λ _. vunit; tells = Nothing-Tells; still = λ _. refl; makes = λ 𝓛. Nothing-Makes 𝓛; lawful = λ 𝓛. Nothing-Lawful 𝓛 }
+unit' = record { row = unit; val = λ _. vunit; tells = Nothing-Tells; still = λ _. refl; makes = λ 𝓛. Nothing-Makes 𝓛; lawful = λ 𝓛. Nothing-Lawful 𝓛; copied = λ M 𝓤 𝓛. Nothing-Copied 𝓛 }
 
 -- ---- declared types: `struct' T.the_type T'.the_laws T'.the_copy T'.the_plain`, T and T' being the type's module and its `Laws`
 abbrev pub struct' : (T : Struct.Declared) → StructLaws.Laws T → StructLaws.Copyables T.parts → Plains (Struct.fields T) → Datum
-struct' T L c p = record { row = Struct.row T; val = StructLaws.val T L; tells = StructLaws.tells T L; still = StructLaws.still T c; makes = λ 𝓛. StructLaws.makes T p 𝓛; lawful = λ 𝓛. StructLaws.lawful T L 𝓛 }
+struct' T L c p = record { row = Struct.row T; val = StructLaws.val T L; tells = StructLaws.tells T L; still = StructLaws.still T c; makes = λ 𝓛. StructLaws.makes T p 𝓛; lawful = λ 𝓛. StructLaws.lawful T L 𝓛; copied = λ M 𝓤 𝓛. StructLaws.copied T c 𝓛 }
 
 -- the last argument, that it has at most 256 variants, is `tt`
 abbrev pub enum' : (T : Enum.Declared) → EnumLaws.Laws T → EnumLaws.Copyabless T.parts → Plainss (Enum.variants T) → Few (Enum.shape T) → Datum
-enum' T L c p few = record { row = Enum.row T; val = EnumLaws.val T L; tells = EnumLaws.tells T L; still = EnumLaws.still T c; makes = λ 𝓛. EnumLaws.makes T p 𝓛; lawful = λ 𝓛. EnumLaws.lawful T L 𝓛 few }
+enum' T L c p few = record { row = Enum.row T; val = EnumLaws.val T L; tells = EnumLaws.tells T L; still = EnumLaws.still T c; makes = λ 𝓛. EnumLaws.makes T p 𝓛; lawful = λ 𝓛. EnumLaws.lawful T L 𝓛 few; copied = λ M 𝓤 𝓛. EnumLaws.copied T c 𝓛 }
 
 -- what is to be shown of a value that is put together in a walk: of each field its own relation, in a row that ends in `tt`; of an enum, of the live variant's fields
 pub struct_is : (T : Struct.Declared) (L : StructLaws.Laws T) (d : T.D) → AreAll (Struct.fields T) (T.to d) (valss (Struct.fields T) (StructLaws.spells T.parts L) (T.to d)) → Is (Struct.row T) d (StructLaws.val T L d ∷ [])

@@ -1,3 +1,5 @@
+#![tactic(auto)]
+
 // The proof library for functions over a lent slice of structs. No code: see proofs/.
 
 #![tactic(auto)]
