@@ -1,0 +1,39 @@
+-- `moves::legal::keep_allowed` meets its contract.
+-- Assumes nothing.
+use mathlib.Core.Path.{sym, ◌∙◌}
+use Prim.Native.Nat.{◌-◌, ◌<◌}
+use native.Mathlib.Omega.{arith}
+use borrow.Author.Tests.{not-true, not-false}
+use Rattle.laws.specs.laws.Bits.{has_low}
+use Rattle.laws.specs.laws.Walk.{Walk, start, done, falls, stays, goes}
+use Rattle.action.specs.Known.{actions}
+use Rattle.action_set.specs.Sets.{SetIn}
+use Rattle.moves.specs.Moves.{allows_of}
+use Rattle.moves.proofs.legal.keep_allowed.Goals as goal
+use Rattle.moves.proofs.legal.keep_allowed.Goals.{After-allows}
+
+inside : (c : After-allows) → SetIn c.args.set
+inside c = c.requires.1
+
+less : (c : After-allows) → c.loop-remaining.remaining - c.bit-b.result < c.loop-remaining.remaining
+less c =
+    falls c.loop-remaining.invariant (inside c) c.next-n.ensures c.bit-b.ensures
+
+pub overflow_sub-remaining : goal.overflow_sub-remaining
+overflow_sub-remaining c = omega (arith, has_low _ _ c.next-n.ensures.is)
+
+pub overflow_sub-kept : goal.overflow_sub-kept
+overflow_sub-kept c = omega (arith, has_low _ _ c.next-n.ensures.is, c.loop-remaining.invariant.part)
+
+-- the member fails the test
+pub loop-remaining-preserved-then-not-allows : goal.loop-remaining-preserved-then-not-allows
+loop-remaining-preserved-then-not-allows c =
+    goes c.loop-remaining.invariant (inside (goal.at.loop-remaining-preserved-then-not-allows c).After-allows) c.next-n.ensures c.bit-b.ensures (sym c.allows.ensures ∙ c.if-not-allows.true)
+
+-- the member passes it
+pub loop-remaining-preserved : goal.loop-remaining-preserved
+loop-remaining-preserved c =
+    stays c.loop-remaining.invariant (inside (goal.at.loop-remaining-preserved c).After-allows) c.next-n.ensures c.bit-b.ensures (sym c.allows.ensures ∙ c.if-not-allows.false)
+
+pub returns : goal.returns
+returns c = (done c.loop-remaining.invariant c.loop-remaining-test.false, omega (arith, c.loop-remaining.invariant.less, c.requires.1))

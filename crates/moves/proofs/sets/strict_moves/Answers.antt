@@ -1,0 +1,34 @@
+-- `moves::sets::strict_moves` meets its contract.
+-- Assumes nothing.
+use mathlib.Core.Path.{◌≡◌, ◌∙◌}
+use mir.Syntax.{w8}
+use mir.Val.{SFits}
+use mir.ValLaws.{to_z-of_z}
+use borrow.Author.Rules.{rules}
+use Rattle.laws.specs.Bits.{collect}
+use Rattle.craft_state.specs.laws.Inside.{durability_read}
+use Rattle.moves.specs.laws.Leaves.{leaves}
+use Rattle.moves.specs.laws.Sets.{strict_rules, strict_leaves}
+use Rattle.moves.proofs.sets.strict_moves.Goals as goal
+
+pub returns : goal.returns
+unfolding collect
+returns c =
+    let e = durability_read c.requires.0 in
+    let fits : SFits w8 c.lost-off.result = search rules in
+    let left : c.unless.result ≡ leaves (strict_rules c.args.context c.args.state) c.args.set =
+    simp (
+      c.unless.ensures.0,
+      c.unless-set-8.ensures.0,
+      c.unless-set-7.ensures.0,
+      c.unless-set-6.ensures.0,
+      c.unless-set-5.ensures.0,
+      c.unless-set-4.ensures.0,
+      c.unless-set-3.ensures.0,
+      c.unless-set-2.ensures.0,
+      c.unless-set.ensures.0,
+      c.no_waste_not.ensures,
+      to_z-of_z w8 _ fits ∙ (simp (e.0, e.1) at c.lost-off.ensures),
+    )
+    in
+    (left ∙ strict_leaves c.args.context c.args.state c.args.set c.requires.1, c.unless.ensures.1)

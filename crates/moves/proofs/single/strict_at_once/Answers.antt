@@ -1,0 +1,32 @@
+-- `moves::single::strict_at_once` meets its contract.
+-- Assumes nothing.
+use mathlib.Core.Path.{◌≡◌, refl, sym, ◌∙◌}
+use lib.Dec.{lit<}
+use borrow.Author.Rules.{rules}
+use Rattle.laws.specs.Bits.{collect}
+use Rattle.action.specs.Table.{action_of, attributes_of}
+use Rattle.action.specs.laws.Bounds.{rows_bounded}
+use Rattle.moves.specs.Modes.{strict}
+use Rattle.moves.specs.laws.Moves.{moves_ended, moves_on}
+use Rattle.moves.specs.laws.AtOnce.{either_of, strict_at_once}
+use Rattle.moves.proofs.single.strict_at_once.Goals as goal
+use Rattle.moves.proofs.single.strict_at_once.Goals.{After-own_moves-own}
+
+-- what either mode leaves
+left : (c : After-own_moves-own)
+    → c.own_moves-own.result ≡ either_of c.args.context c.args.state attributes_of rows_bounded c.args.context.action_pool.0
+unfolding collect action_of
+left c = simp (c.own_moves-own.ensures.0, c.unless-set.ensures.0)
+
+pub returns-then-has_ended : goal.returns-then-has_ended
+returns-then-has_ended c = (sym (moves_ended attributes_of c.args.context c.args.state strict (sym c.has_ended.ensures ∙ c.if-has_ended.true)), lit< tt)
+
+-- the price is asked for last
+pub returns : goal.returns
+returns c =
+    let going = sym c.has_ended.ensures ∙ c.if-has_ended.false in
+    let all = strict_at_once c.args.context c.args.state attributes_of rows_bounded c.args.context.action_pool.0 strict refl in (
+      simp (c.keep_payable_single.ensures.0, c.strict_part_single.ensures.0, left (goal.at.returns c).After-own_moves-own)
+          (all ∙ sym (moves_on attributes_of c.args.context c.args.state strict going)),
+      c.keep_payable_single.ensures.1,
+    )

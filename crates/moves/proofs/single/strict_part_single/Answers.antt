@@ -1,0 +1,30 @@
+-- `moves::single::strict_part_single` meets its contract.
+-- Assumes nothing.
+use mathlib.Core.Path.{sym, ◌∙◌}
+use borrow.Author.Rules.{rules}
+use Rattle.laws.specs.Bits.{collect}
+use Rattle.action.specs.Table.{action_of, attributes_of}
+use Rattle.moves.specs.laws.AtOnce.{eye_leaves, beyond_leaves}
+use Rattle.moves.proofs.single.strict_part_single.Goals as goal
+
+-- TrainedEye alone
+pub returns-then-is_eye_alone : goal.returns-then-is_eye_alone
+unfolding collect
+returns-then-is_eye_alone c =
+    let eye = sym c.is_eye_alone.ensures ∙ c.if-is_eye_alone.true in
+    (c.within.ensures.0 ∙ eye_leaves c.args.context c.args.state eye attributes_of c.args.set, c.within.ensures.1)
+
+-- those that finish
+pub progress_moves-requires : goal.progress_moves-requires
+unfolding collect action_of
+progress_moves-requires c =
+    (c.kind_moves-kind.ensures.1, simp (c.keep_finishing-finish.ensures.0, c.within-2.ensures.0))
+
+-- the rules one after the other
+pub returns : goal.returns
+returns c =
+    let eye = sym c.is_eye_alone.ensures ∙ c.if-is_eye_alone.false in (
+      simp (c.progress_moves.ensures.0, c.kind_moves-kind.ensures.0, c.strict_moves-strict.ensures.0)
+          (beyond_leaves c.args.context c.args.state eye attributes_of c.args.set),
+      c.progress_moves.ensures.1,
+    )
