@@ -1,0 +1,54 @@
+-- `transcript::rows::put_rows` meets its contract.
+-- Assumes nothing.
+use mathlib.Core.Path.{◌≡◌, refl, sym, ap, subst, ◌∙◌}
+use Prim.Native.Nat.{◌+◌, ◌*◌, ◌-◌, ◌≤◌}
+use native.Mathlib.Omega.{arith}
+use lib.ListN.{length, drop}
+use Rattle.text.specs.Over.{over}
+use Rattle.text.specs.laws.Over.{over_none}
+use Rattle.action.specs.Table.{attributes_of}
+use Rattle.action.specs.laws.Bounds.{rows_bounded}
+use Rattle.craft_state.specs.Inside.{CraftIn}
+use Rattle.step.specs.Step.{executed_of}
+use Rattle.moves.specs.Modes.{plain}
+use Rattle.moves.specs.laws.Moves.{legal_playable, legal_keeps}
+use Rattle.transcript.specs.Transcript.{row_most, rows_of}
+use Rattle.transcript.specs.inner.Played.{Played}
+use Rattle.transcript.specs.laws.Transcript.{next_known, next_legal, rest_played, rows_over, rows_count, rows_end, rows_short}
+use Rattle.transcript.proofs.rows.put_rows.Goals as goal
+
+-- the row that is looked up is the table's
+pub execute_single-state-requires : goal.execute_single-state-requires
+execute_single-state-requires c =
+    let l = c.loop-i in
+    let h = c.loop-i-test.true in
+    let known = next_known _ l.state _ h l.invariant.2 in
+    rw c.attributes_of.ensures
+    (legal_playable attributes_of rows_bounded _ l.state plain _ l.invariant.1 known (next_legal _ l.state _ h l.invariant.2), rows_bounded _ known)
+
+pub loop-i-preserved : goal.loop-i-preserved
+loop-i-preserved c =
+    let l = c.loop-i in
+    let h = c.loop-i-test.true in
+    let known = next_known _ l.state _ h l.invariant.2 in
+    let e = c.execute_single-state.ensures ∙ ap (executed_of _ _ _) c.attributes_of.ensures in
+    let p = c.put_row-end.ensures.0 in (
+      omega arith,
+      subst (CraftIn _) (sym e) (legal_keeps attributes_of rows_bounded _ l.state plain _ l.invariant.1 known (next_legal _ l.state _ h l.invariant.2)),
+      rest_played _ l.state _ h e l.invariant.2,
+      rows_over _ l.state _ h e p ∙ l.invariant.3,
+      rows_count _ l.state _ h e p ∙ l.invariant.4,
+      omega (arith, c.put_row-end.ensures.1, l.invariant.5),
+      c.put_row-end.auto.out ∙ l.invariant.6,
+    )
+
+pub returns : goal.returns
+returns c =
+    let l = c.loop-i in
+    let none = rows_end c.args.context l.state c.args.part.now c.loop-i-test.false in (
+      record {
+        next = omega (arith, ap length none, l.invariant.4);
+        same = sym (over_none l.out l.end) ∙ ap (over l.out l.end) (sym none) ∙ l.invariant.3;
+      },
+      omega (arith, ap length none, l.invariant.4, rows_short c.args.context c.args.start c.args.part.now),
+    )
