@@ -1,0 +1,35 @@
+-- `tree::few::solve_few` meets its contract: the table gives the way down, and the actions down to the last record are stored.
+-- Assumes nothing.
+use Rattle.std.proofs.Common.{◌≡◌, ℕ, ◌+◌, ◌<◌, ◌≤◌, true, false, length, refl, sym, subst, ◌∙◌, arith}
+use Rattle.tree.specs.Tree.{best_of, is_sound, solution_of}
+use Rattle.tree.specs.inner.Few.{few, entry_at, Bests, Rises, way_of}
+use Rattle.tree.specs.laws.Tree.{of_tree}
+use Rattle.tree.specs.laws.Paths.{solution_short, solution_solved}
+use Rattle.tree.specs.laws.Descent.{Turned, turned, down_more, down_none, down_on, down_end, stored_all, down_first, stored_first}
+use Rattle.tree.specs.laws.Few.{blank_length, blank_table, table_rises, way_length}
+use Rattle.tree.proofs.few.solve_few.Goals.{After-best_children, After-way_len-needed, After-best_at-last}
+use Rattle.tree.proofs.few.solve_few.Goals as goal
+
+long : (c : After-best_children) → c.args.count ≤ length c.best_children.new.best
+long c = omega (arith, c.requires.1, c.best_children.auto.best)
+
+is : (c : After-way_len-needed) → c.way_len-needed.result ≡ length (solution_of c.args.nodes.now c.args.count)
+is c = c.way_len-needed.ensures ∙ way_length _ _ c.requires.0 c.best_children.new.best (long (goal.at.After-way_len-needed c).After-best_children) c.best_children.ensures
+
+pub best_children-requires : goal.best_children-requires
+best_children-requires c = blank_table c.requires.0 c.requires.1 _ refl
+
+pub way_len-needed-requires : goal.way_len-needed-requires
+way_len-needed-requires c = (table_rises _ _ c.requires.0 c.best_children.new.best (long (goal.at.way_len-needed-requires c).After-best_children) c.best_children.ensures, omega (arith, long (goal.at.way_len-needed-requires c).After-best_children, c.requires.0.some))
+
+pub returns-then-not-fits : goal.returns-then-not-fits
+returns-then-not-fits c = solution_short _ _ _ (of_tree c.requires.0) (is (goal.at.returns-then-not-fits c).After-way_len-needed) (sym c.has_room-fits.ensures ∙ c.if-not-fits.true)
+
+pub put_action-at-requires : goal.put_action-at-requires
+put_action-at-requires c = ?
+
+pub loop-at-preserved : goal.loop-at-preserved
+loop-at-preserved c = ?
+
+pub returns : goal.returns
+returns c = ?
