@@ -9,8 +9,8 @@ pub touch_path-requires : goal.touch_path-requires
 touch_path-requires c = back_reaches_target _ _ _ _ _ c.check_back-checked.ensures (sym c.is_passed-passed.ensures ∙ c.if-passed.true)
 
 pub returns : goal.returns
-returns c = 
+returns c =
     elim c.if-passed.branch [
-      then-passed w ↦ back_done _ _ _ _ _ c.check_back-checked.ensures (sym c.is_passed-passed.ensures ∙ w.if-passed.true) (w.nodes-is ∙ w.touch_path.ensures) c.answer.ensures
-    | else-passed w ↦ rw w.nodes-is (back_refused _ _ _ _ _ c.check_back-checked.ensures (sym c.is_passed-passed.ensures ∙ w.if-passed.false) c.answer.ensures)
+      | then-passed w ↦ back_done _ _ _ _ _ c.check_back-checked.ensures (sym c.is_passed-passed.ensures ∙ w.if-passed.true) (w.nodes-is ∙ w.touch_path.ensures) c.answer.ensures
+      | else-passed w ↦ rw w.nodes-is (back_refused _ _ _ _ _ c.check_back-checked.ensures (sym c.is_passed-passed.ensures ∙ w.if-passed.false) c.answer.ensures)
     ]

@@ -1,11 +1,6 @@
 -- `tree::climb::survey_path` meets its contract: what was found, and what is left to find from record k on, make the whole.
 -- Assumes nothing.
-use Rattle.std.proofs.Common.{◌≡◌, ℕ, Bool, ◌||◌, ap, sym, ◌∙◌, subst, arith}
-use Rattle.tree.specs.declared.node.Node.{Node}
-use Rattle.tree.specs.declared.climb.Survey.{Survey}
-use Rattle.tree.specs.Node.{is_full}
-use Rattle.tree.specs.inner.Back.{survey_of, Surveys}
-use Rattle.tree.proofs.Turns.{Testing, test_turns, test_ends}
+use Rattle.tree.proofs.Turns.{test_turns, test_ends}
 use Rattle.tree.proofs.climb.survey_path.Goals as goal
 
 pub loop-k-preserved : goal.loop-k-preserved

@@ -1,8 +1,8 @@
 -- `tree::descend::put_solution` meets its contract: the actions down to the last record are stored, and the best child is that record's.
 -- Assumes nothing.
-use Rattle.std.proofs.Common.{◌≡◌, ℕ, ◌+◌, ◌<◌, length, sym, ◌∙◌, arith}
+use Rattle.std.proofs.Common.{◌<◌, length, sym, ◌∙◌, arith}
 use Rattle.tree.specs.Tree.{best_of}
-use Rattle.tree.specs.laws.Descent.{Down, Turned, turned, down_rises, down_room, down_on, down_end, stored_all}
+use Rattle.tree.specs.laws.Descent.{Turned, turned, down_rises, down_room, down_on, down_end, stored_all}
 use Rattle.tree.proofs.descend.put_solution.Goals.{In-loop-best, After-put_action-at}
 use Rattle.tree.proofs.descend.put_solution.Goals as goal
 

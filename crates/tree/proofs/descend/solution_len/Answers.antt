@@ -1,8 +1,8 @@
 -- `tree::descend::solution_len` meets its contract: the best child is that of a record on the way down, len records below record 0.
 -- Assumes nothing.
-use Rattle.std.proofs.Common.{◌≡◌, ℕ, ◌+◌, ◌<◌, length, sym, subst, ◌∙◌, arith}
+use Rattle.std.proofs.Common.{◌+◌, ◌<◌, sym, ◌∙◌, arith}
 use Rattle.tree.specs.Tree.{best_of}
-use Rattle.tree.specs.laws.Descent.{Down, down_first, down_short, down_room, down_on, down_length}
+use Rattle.tree.specs.laws.Descent.{Down, down_short, down_room, down_on, down_length}
 use Rattle.tree.proofs.descend.solution_len.Goals.{In-loop-best}
 use Rattle.tree.proofs.descend.solution_len.Goals as goal
 

@@ -1,6 +1,6 @@
 -- `tree::few::best_children` meets its contract: the table has the best children among the records before the next.
 -- Assumes nothing.
-use Rattle.std.proofs.Common.{◌≡◌, ℕ, ◌+◌, ◌<◌, ◌≤◌, List, length, subst, le_antisymm, arith}
+use Rattle.std.proofs.Common.{◌≡◌, ℕ, ◌+◌, ◌<◌, List, length, subst, le_antisymm, arith}
 use Rattle.tree.specs.declared.node.Node.{Node}
 use Rattle.tree.specs.Tree.{node_at}
 use Rattle.tree.specs.inner.Few.{Noting, child_noted, Blank}

@@ -1,12 +1,11 @@
 -- `tree::few::solve_few` meets its contract: the table gives the way down, and the actions down to the last record are stored.
 -- Assumes nothing.
-use Rattle.std.proofs.Common.{◌≡◌, ℕ, ◌+◌, ◌<◌, ◌≤◌, true, false, length, refl, sym, subst, ◌∙◌, arith, leb-true}
-use Rattle.tree.specs.Tree.{best_of, is_sound, solution_of}
-use Rattle.tree.specs.inner.Few.{few, entry_at, Bests, Rises, way_of}
+use Rattle.std.proofs.Common.{◌≡◌, ◌<◌, ◌≤◌, length, refl, sym, ◌∙◌, arith, leb-true}
+use Rattle.tree.specs.Tree.{best_of, solution_of}
 use Rattle.tree.specs.laws.Tree.{of_tree}
 use Rattle.tree.specs.laws.Paths.{solution_short, solution_solved}
-use Rattle.tree.specs.laws.Descent.{Turned, turned, down_more, down_none, down_on, down_end, stored_all, down_first, stored_first}
-use Rattle.tree.specs.laws.Few.{blank_length, blank_table, table_rises, way_length}
+use Rattle.tree.specs.laws.Descent.{turned, down_more, down_none, down_on, down_end, stored_all}
+use Rattle.tree.specs.laws.Few.{blank_table, table_rises, way_length}
 use Rattle.tree.proofs.few.solve_few.Goals.{After-best_children, After-way_len-needed, After-best_at-last}
 use Rattle.tree.proofs.few.solve_few.Goals as goal
 

@@ -1,7 +1,6 @@
 -- `tree::grow::insert_answer` meets its contract: its tests in their order.
 -- Assumes nothing.
-use Rattle.std.proofs.Common.{List, ◌∷◌, refl, rules, le-ltb, lt-ltb}
-use borrow.Author.Tests.{not-true, not-false}
+use Rattle.std.proofs.Common.{List, ◌∷◌, refl, le-ltb, lt-ltb}
 use Rattle.refusal.specs.laws.Judge.{stopped, stopped_by_lem, onward, onward_by, answered, fails, holds}
 use Rattle.refusal.specs.Judge.{Test, Says}
 use Rattle.action.specs.Known.{action_test}

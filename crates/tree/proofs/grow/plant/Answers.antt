@@ -1,6 +1,6 @@
 -- `tree::grow::plant` meets its contract: record 0 is written where the answer is no refusal.
 -- Assumes nothing.
-use Rattle.std.proofs.Common.{ℕ, ap, refl, sym, ◌∙◌, false, true, set}
+use Rattle.std.proofs.Common.{ap, refl, sym, ◌∙◌, false, true, set}
 use Rattle.tree.specs.declared.node.Node.{Node}
 use Rattle.tree.specs.laws.Grow.{plants, planted_room}
 use Rattle.tree.proofs.grow.plant.Goals as goal

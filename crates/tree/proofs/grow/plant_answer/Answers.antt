@@ -1,6 +1,6 @@
 -- `tree::grow::plant_answer` meets its contract.
 -- Assumes nothing.
-use Rattle.std.proofs.Common.{refl, rules}
+use Rattle.std.proofs.Common.{refl}
 use Rattle.refusal.specs.laws.Judge.{stopped, onward, answered, checks_alone}
 use Rattle.tree.proofs.grow.plant_answer.Goals as goal
 

@@ -17,12 +17,12 @@ pub overflow_add-len : goal.overflow_add-len
 overflow_add-len c = omega (arith, c.loop-i.invariant.counted, children_length c.args.nodes.now c.args.parent c.loop-i.i)
 
 pub loop-i-preserved : goal.loop-i-preserved
-loop-i-preserved c = 
+loop-i-preserved c =
     let same = ap (λ (y : Node). is_child c.loop-i.i y c.args.parent) (sym c.node_at-n.ensures) ∙ sym c.is_child.ensures in
     record {
       within = omega arith;
       counted = elim c.if-is_child.branch [
-        then-is_child w ↦ w.len-is ∙ longer _ _ _ _ c.loop-i.invariant.counted (same ∙ w.if-is_child.true)
-      | else-is_child w ↦ w.len-is ∙ c.loop-i.invariant.counted ∙ sym (ap length (children_none _ _ _ (same ∙ w.if-is_child.false)))
+        | then-is_child w ↦ w.len-is ∙ longer _ _ _ _ c.loop-i.invariant.counted (same ∙ w.if-is_child.true)
+        | else-is_child w ↦ w.len-is ∙ c.loop-i.invariant.counted ∙ sym (ap length (children_none _ _ _ (same ∙ w.if-is_child.false)))
       ];
     }

@@ -5,7 +5,7 @@ use Rattle.text.specs.Over.{Put}
 use Rattle.text.specs.laws.Over.{put_as, put_none, length_over, then}
 use Rattle.tree.specs.declared.node.Node.{Node}
 use Rattle.tree.specs.Tree.{node_at, is_child, children_of}
-use Rattle.tree.specs.laws.Children.{children_start, children_one, children_none, children_length, children_rise}
+use Rattle.tree.specs.laws.Children.{children_start, children_one, children_none, children_rise}
 use Rattle.tree.proofs.listing.put_children.Goals.{then-is_child, else-is_child}
 use Rattle.tree.proofs.listing.put_children.Goals as goal
 
@@ -35,17 +35,17 @@ pub loop-i-init : goal.loop-i-init
 loop-i-init c = record { within = omega arith; put = put_none _ 0 (children_start _ _) }
 
 pub put_index-at-requires : goal.put_index-at-requires
-put_index-at-requires c = 
+put_index-at-requires c =
     let same = ap (λ (y : Node). is_child c.loop-i.i y c.args.parent) (sym c.node_at-n.ensures) ∙ sym c.is_child.ensures in
     roomy _ _ _ _ _ _ c.loop-i.invariant.put c.args.count (same ∙ c.if-is_child.true) c.loop-i-test.true c.requires.1
 
 pub loop-i-preserved : goal.loop-i-preserved
-loop-i-preserved c = 
+loop-i-preserved c =
     let same = ap (λ (y : Node). is_child c.loop-i.i y c.args.parent) (sym c.node_at-n.ensures) ∙ sym c.is_child.ensures in
     record {
       within = omega arith;
       put = elim c.if-is_child.branch [
-        then-is_child w ↦ rw (w.at-is, w.out-is) (found _ _ _ _ _ _ c.loop-i.invariant.put (same ∙ w.if-is_child.true) w.put_index-at.ensures)
-      | else-is_child w ↦ rw (w.at-is, w.out-is) (other _ _ _ _ _ _ c.loop-i.invariant.put (same ∙ w.if-is_child.false))
+        | then-is_child w ↦ rw (w.at-is, w.out-is) (found _ _ _ _ _ _ c.loop-i.invariant.put (same ∙ w.if-is_child.true) w.put_index-at.ensures)
+        | else-is_child w ↦ rw (w.at-is, w.out-is) (other _ _ _ _ _ _ c.loop-i.invariant.put (same ∙ w.if-is_child.false))
       ];
     }

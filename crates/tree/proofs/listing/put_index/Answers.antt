@@ -1,6 +1,5 @@
 -- `tree::listing::put_index` meets its contract.
 -- Assumes nothing.
-use Rattle.std.proofs.Common.{rules}
 use Rattle.text.specs.laws.Over.{put_one}
 use Rattle.tree.proofs.listing.put_index.Goals as goal
 

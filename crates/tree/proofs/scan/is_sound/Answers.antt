@@ -1,6 +1,6 @@
 -- `tree::scan::is_sound` meets its contract: the records before the next are sound.
 -- Assumes nothing.
-use Rattle.std.proofs.Common.{◌≡◌, ℕ, ◌+◌, ◌<◌, ◌≤◌, Bool, true, false, ◌&&◌, nat_le, List, length, sym, ap, refl, ◌∙◌, le_antisymm, add-one, arith, leb-true}
+use Rattle.std.proofs.Common.{◌≡◌, ℕ, ◌+◌, ◌<◌, Bool, true, false, ◌&&◌, nat_le, List, length, sym, ap, refl, ◌∙◌, le_antisymm, add-one, arith}
 use Rattle.laws.specs.laws.Tests.{both}
 use Rattle.tree.specs.declared.node.Node.{Node}
 use Rattle.tree.specs.Sound.{sound_at}
@@ -52,6 +52,6 @@ loop-k-preserved c = record {
 }
 
 pub returns : goal.returns
-returns c = 
+returns c =
     let all : c.loop-k.k ≡ c.args.count = le_antisymm c.loop-k.invariant.within c.loop-k-test.false in
     all_sound _ _ (sym c.is_counted-counted.ensures ∙ c.if-not-counted.false) (ap (λ (m : ℕ). sound_to m c.args.nodes.now) (sym all) ∙ c.loop-k.invariant.sound)
