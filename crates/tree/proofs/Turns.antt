@@ -20,9 +20,6 @@ pub record Testing (nodes : List Node) (start target : ℕ) (full : Bool) (k : �
   pub filled : full || any_full nodes (path_of nodes k target) ≡ any_full nodes (path_of nodes start target)
 
 module _ (nodes : List Node) (start target : ℕ) (climbs : Climbs nodes start) where
-  pub test_starts : Testing nodes start target false start
-  test_starts = record { on = omega arith; above = refl; filled = refl }
-
   pub test_falls : {full : Bool} {k : ℕ} → Testing nodes start target full k → target < k → (node_at nodes k).parent < k
   test_falls {full} {k} t l = climbs.falls k (omega arith) t.on
 
@@ -59,9 +56,6 @@ pub record Writing (nodes : List Node) (start target : ℕ) (score : Float) (now
 module _ (nodes : List Node) (start target : ℕ) (score : Float) (reaches : Reaches nodes start target) where
   falls_still : {now : List Node} {at : ℕ} → Writing nodes start target score now at → Falls now (start + 1)
   falls_still w k some h = rw (w.parents k) (reaches.climbs.falls k some h)
-
-  pub write_starts : Writing nodes start target score nodes start
-  write_starts = record { on = omega arith; long = refl; parents = λ j. refl; above = reaches.above; rest = refl }
 
   pub write_falls : {now : List Node} {k : ℕ} → Writing nodes start target score now k → target < k → (node_at now k).parent < k
   write_falls {now} {k} w l = falls_still w k (omega arith) w.on
