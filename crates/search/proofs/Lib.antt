@@ -1,7 +1,0 @@
--- What several proofs share.
--- Assumes nothing.
-pub mod TypesSelect
-pub mod TypesStore
-pub mod TypesIterate
-pub mod TypesGrow
-pub mod TypesSearch
