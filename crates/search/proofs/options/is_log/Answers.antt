@@ -1,0 +1,9 @@
+-- `search::options::is_log` meets its contract.
+-- Assumes nothing.
+use Rattle.std.proofs.Common.{refl}
+use lib.Ieee.{of_int, of_bits}
+use Rattle.search.proofs.options.is_log.Goals as goal
+
+pub returns : goal.returns
+unfolding of_int of_bits
+returns c = refl
