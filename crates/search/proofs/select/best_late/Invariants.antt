@@ -1,6 +1,6 @@
 -- `search::select::best_late` meets its contract: the best of the children from the next down is found from the best so far.
 -- Assumes nothing.
-use Rattle.std.proofs.Common.{◌≡◌, ◌-◌, ◌≤◌}
+use Rattle.std.proofs.Common.{◌≡◌, ◌≤◌}
 use Rattle.rates.specs.Best.{no_best}
 use Rattle.rates.specs.inner.Holds.{Holds}
 use Rattle.search.specs.inner.Newest.{best_down}

@@ -1,9 +1,9 @@
 -- `search::select::best_linked` meets its contract: the best so far is on the way by the index from the last child.
 -- Assumes nothing.
-use Rattle.std.proofs.Common.{◌≡◌, ℕ, ◌<◌, ap, subst, ◌∙◌, arith}
+use Rattle.std.proofs.Common.{ℕ, ap, subst, ◌∙◌, arith}
 use Rattle.tree.specs.declared.node.Node.{Node}
 use Rattle.search.specs.inner.Newest.{better_node}
-use Rattle.search.specs.laws.Indexed.{Way, way_first, way_asks, way_less, way_on, way_end}
+use Rattle.search.specs.laws.Indexed.{Way, way_less, way_on, way_end}
 use Rattle.search.proofs.select.best_linked.Goals as goal
 
 pub loop-k-smaller : goal.loop-k-smaller

@@ -1,8 +1,7 @@
 -- `search::select::next_child` meets its contract: the best child past the index, and then by it, is the best of all.
 -- Assumes nothing.
-use Rattle.std.proofs.Common.{◌≡◌, ℕ, ◌+◌, true, ◌==◌, sym, ap, subst, ◌∙◌, arith}
+use Rattle.std.proofs.Common.{◌≡◌, ℕ, ◌+◌, true, ◌==◌, sym, ap, subst, ◌∙◌}
 use borrow.Author.Tests.{not-false}
-use Rattle.rates.specs.declared.Best.{Best}
 use Rattle.rates.specs.declared.Weights.{Weights}
 use Rattle.rates.specs.Best.{no_best}
 use Rattle.tree.specs.declared.node.Node.{Node}
@@ -33,8 +32,8 @@ returns c =
     let ys = c.args.nodes.now in
     let late = c.best_late-late in
     let spent : ((node_at ys c.args.k).unused == 0) ≡ true =
-        subst (λ (m : Node). (m.unused == 0) ≡ true) c.node_at-n.ensures (not-false (c.node_at-n.result.unused == 0) (sym c.has_unused-unused.ensures ∙ c.if-unused.false)) in
+    subst (λ (m : Node). (m.unused == 0) ≡ true) c.node_at-n.ensures (not-false (c.node_at-n.result.unused == 0) (sym c.has_unused-unused.ensures ∙ c.if-unused.false)) in
     let best : best_down w ys (node_at ys c.last_child-last.result).parent (c.last_child-last.result + 1) late.result ≡ best_down w ys c.args.k c.args.count no_best =
-        subst (λ (j : ℕ). best_down w ys (node_at ys j).parent (j + 1) late.result ≡ best_down w ys c.args.k c.args.count no_best) (sym c.last_child-last.ensures)
-        (index_best w ys c.args.count c.args.links.now c.args.k c.requires.tree (fair at) c.requires.index late.result late.ensures.0) in
+    subst (λ (j : ℕ). best_down w ys (node_at ys j).parent (j + 1) late.result ≡ best_down w ys c.args.k c.args.count no_best) (sym c.last_child-last.ensures)
+    (index_best w ys c.args.count c.args.links.now c.args.k c.requires.tree (fair at) c.requires.index late.result late.ensures.0) in
     next_best c.requires (c.best_linked-best.ensures ∙ best ∙ ap (λ (v : Weights). best_down v ys c.args.k c.args.count no_best) (sym (weighed at))) spent

@@ -1,8 +1,7 @@
 -- `search::select::select` meets its contract: the record, the state there and the record that comes next are on the way down.
 -- Assumes nothing.
-use Rattle.std.proofs.Common.{ℕ, ◌<◌, sym, ap, subst, ◌∙◌, arith}
+use Rattle.std.proofs.Common.{◌<◌, sym, ap, subst, ◌∙◌, arith}
 use Rattle.action.specs.Table.{attributes_of}
-use Rattle.craft_state.specs.declared.state.CraftState.{CraftState}
 use Rattle.step.specs.Step.{execute_of}
 use Rattle.step.specs.inner.Asked.{Playable}
 use Rattle.tree.specs.declared.node.Node.{Node}
