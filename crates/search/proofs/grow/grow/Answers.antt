@@ -1,8 +1,7 @@
 -- `search::grow::grow` meets its contract: the loop's state is what was done, whether it goes on, the records and the index.
 -- Assumes nothing.
-use Rattle.std.proofs.Common.{◌≡◌, ◌<◌, ℕ, Bool, true, sym, ◌∙◌, subst, refl, arith}
-use Rattle.search.specs.inner.Ready.{going_of}
-use Rattle.search.specs.laws.Going.{going_first, going_less, going_ready, going_on, going_ends, away_of, nearer}
+use Rattle.std.proofs.Common.{sym, ◌∙◌, refl}
+use Rattle.search.specs.laws.Going.{going_first, going_ready, going_on, going_ends}
 use Rattle.search.proofs.grow.grow.Goals as goal
 
 pub loop-going-init : goal.loop-going-init
@@ -12,11 +11,6 @@ pub iterate-turned-requires : goal.iterate-turned-requires
 iterate-turned-requires c =
     let goes = sym c.loop-going.invariant.test ∙ c.loop-going-test.true in
     (going_ready _ _ _ _ _ c.loop-going.invariant.inv goes, c.loop-going.invariant.inv.place)
-
-pub grown_by-grown-requires : goal.grown_by-grown-requires
-grown_by-grown-requires c =
-    let goes = sym c.loop-going.invariant.test ∙ c.loop-going-test.true in
-    omega (arith, going_less _ _ _ _ _ c.loop-going.invariant.inv goes, c.loop-going.invariant.inv.asked.iterations)
 
 pub loop-going-preserved : goal.loop-going-preserved
 loop-going-preserved c =
