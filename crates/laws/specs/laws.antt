@@ -12,6 +12,5 @@ pub mod Small
 pub mod NoNan
 pub mod Order
 pub mod Monotone
-pub mod Within
 pub mod AtLeast
 pub mod Floats

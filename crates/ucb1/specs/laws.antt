@@ -1,3 +1,1 @@
-pub mod Bounds
-pub mod Dominated
 pub mod Worked

@@ -6,7 +6,8 @@ use Rattle.std.specs.Float.{binary32}
 use Rattle.std.specs.Float.Ieee.{div}
 use Rattle.std.specs.Float.Ieee.Exact.{HasValue}
 use Rattle.laws.specs.laws.Plus.{Plus, plus_of_nat, plus_add, plus_mul, plus_div}
-use Rattle.laws.specs.laws.Small.{Small, small_more, of_nat_small, of_nat_value, add_small, mul_small, div_small, truncated_small}
+use Rattle.laws.specs.laws.Small.{Small, small_more, of_nat_value, truncated_small}
+use Rattle.laws.proofs.Small.{of_nat_small, add_small, mul_small, div_small}
 use Rattle.action.specs.Limits.{factor_most}
 use Rattle.laws.specs.Floats.{float, hundredths}
 use Rattle.craft_context.specs.Factor.{base_of, scaled_of, factor_of}

@@ -12,7 +12,7 @@ use Rattle.std.specs.Float.Ieee.Scale.{finite}
 use Rattle.laws.specs.laws.Tests.{true_false}
 use Rattle.laws.specs.Floats.{float, one}
 use Rattle.laws.specs.laws.Plus.{Plus, plus_round}
-use Rattle.laws.specs.laws.Small.{Small, small_finite, round_small, div_at_most}
+use Rattle.laws.specs.laws.Small.{Small, small_finite}
 use Rattle.laws.specs.laws.Order.{minus_by, order_le, le_order}
 
 abbrev pub AtLeast0 : Float → Type 0
@@ -25,17 +25,17 @@ unfolding of_int
 least_minus false m e h = refl
 least_minus true m e h = omega (arith, le_order (fin false 0 (pos 0)) (fin true m e) tt tt h)
 
-minus_least : (s : Bool) (m : ℕ) (e : ℤ) → minus_by s (m * up e) ≡ 0 → AtLeast0 (fin s m e)
+pub minus_least : (s : Bool) (m : ℕ) (e : ℤ) → minus_by s (m * up e) ≡ 0 → AtLeast0 (fin s m e)
 unfolding of_int
 minus_least s m e h = order_le (fin false 0 (pos 0)) (fin s m e) tt tt (omega (arith, h))
 
-plus_at_least : (x : Float) → Plus x → T (finite x) → AtLeast0 x
+pub plus_at_least : (x : Float) → Plus x → T (finite x) → AtLeast0 x
 plus_at_least nan p f = absurd f
 plus_at_least (inf s) p f = absurd f
 plus_at_least (fin true m e) p f = absurd p
 plus_at_least (fin false m e) p f = minus_least false m e refl
 
-nothing_least : (x : Float) → Small x 0 → AtLeast0 x
+pub nothing_least : (x : Float) → Small x 0 → AtLeast0 x
 nothing_least nan h = absurd h
 nothing_least (inf s) h = absurd h
 nothing_least (fin true m e) h = minus_least true m e (omega (arith, h, zero-mul (down e)))
@@ -58,26 +58,11 @@ least_no_nan (fin s m e) h = tt
 
 -- ---- the operations
 
-round_least : (f : Format) (s : Bool) (a c b : ℕ) → 0 < c → b ≤ 2 ^ prec f → a ≤ b * c → minus_by s a ≡ 0 → AtLeast0 (round f s a c)
-round_least f false a c b C B h e = plus_at_least (round f false a c) (plus_round f a c) (small_finite (round f false a c) b (round_small f false a c b C B h))
-round_least f true a c b C B h e = nothing_least (round f true a c) (round_small f true a c 0 C zero-le (omega (arith, e, zero-mul c)))
-
-minus_product : (s t : Bool) (a b : ℕ) → minus_by s a ≡ 0 → minus_by t b ≡ 0 → minus_by (unlike s t) (a * b) ≡ 0
+pub minus_product : (s t : Bool) (a b : ℕ) → minus_by s a ≡ 0 → minus_by t b ≡ 0 → minus_by (unlike s t) (a * b) ≡ 0
 minus_product true true a b p q = refl
 minus_product true false a b p q = ap (λ (z : ℕ). z * b) p ∙ zero-mul b
 minus_product false true a b p q = ap (λ (z : ℕ). a * z) q ∙ mul-zero a
 minus_product false false a b p q = refl
-
-pub mul_least : (f : Format) (x y : Float) (b d : ℕ) → b * d ≤ 2 ^ prec f → Small x b → Small y d → AtLeast0 x → AtLeast0 y → AtLeast0 (mul f x y)
-unfolding mul
-mul_least f nan y b d B p q h k = absurd p
-mul_least f (inf s) y b d B p q h k = absurd p
-mul_least f (fin s m e) nan b d B p q h k = absurd q
-mul_least f (fin s m e) (inf t) b d B p q h k = absurd q
-mul_least f (fin s m e) (fin t n g) b d B p q h k =
-    round_least f (unlike s t) (m * up e * (n * up g)) (down e * down g) (b * d) (mul-pos (down_pos e) (down_pos g)) B
-    (le_trans (mul-le-mul p q) (le_of_eq (mul-mul-mul_comm b (down e) d (down g))))
-    (minus_product s t (m * up e) (n * up g) (least_minus s m e h) (least_minus t n g k))
 
 -- ---- over what is at least 1
 
@@ -89,49 +74,8 @@ one_most false n d h = (refl, omega (arith, le_order (fin false 1 (pos 0)) (fin 
 pub some : (n : ℕ) (d : ℤ) → down d ≤ n * up d → 0 < n
 some n d h = first_pos n (up d) (lt_of_lt_of_le (down_pos d) h)
 
-no_more : (x c y d b : ℕ) → x ≤ b * c → d ≤ y → x * d ≤ b * (y * c)
+pub no_more : (x c y d b : ℕ) → x ≤ b * c → d ≤ y → x * d ≤ b * (y * c)
 no_more x c y d b h k = le_trans (mul-le-mul h k) (le_of_eq (mul_assoc b c y ∙ ap (λ (z : ℕ). b * z) (mul_comm c y)))
-
-pub over_one_small : (f : Format) (x y : Float) (b : ℕ) → b ≤ 2 ^ prec f → T (le one y) → T (finite y) → Small x b → Small (div f x y) b
-over_one_small f nan y b B h g p = absurd p
-over_one_small f (inf s) y b B h g p = absurd p
-over_one_small f (fin s m e) nan b B h g p = absurd g
-over_one_small f (fin s m e) (inf t) b B h g p = absurd g
-over_one_small f (fin s m e) (fin t n d) b B h g p =
-    let k = (one_most t n d h).1 in
-    div_at_most f s m e t n d b B (some n d k) (no_more (m * up e) (down e) (n * up d) (down d) b p k)
-
-pub over_one_least : (f : Format) (x y : Float) (b : ℕ) → b ≤ 2 ^ prec f → T (le one y) → T (finite y) → Small x b → AtLeast0 x
-    → AtLeast0 (div f x y)
-unfolding div
-over_one_least f nan y b B h g p l = absurd p
-over_one_least f (inf s) y b B h g p l = absurd p
-over_one_least f (fin s m e) nan b B h g p l = absurd g
-over_one_least f (fin s m e) (inf t) b B h g p l = absurd g
-over_one_least f (fin s m e) (fin true n d) b B h g p l = absurd (true_false (one_most true n d h).0)
-over_one_least f (fin s m e) (fin false n d) b B h g p l =
-    let k = (one_most false n d h).1 in
-    let N = some n d k in
-    rw (ne_eqb n 0 (λ (e : n ≡ 0). omega arith))
-    (round_least f (unlike s false) (m * up e * down d) (n * up d * down e) b (mul-pos (mul-pos N (up_pos d)) (down_pos e)) B
-    (no_more (m * up e) (down e) (n * up d) (down d) b p k)
-    (minus_product s false (m * up e) (down d) (least_minus s m e l) refl))
-
--- what is no larger than that, either way
-pub over_size : (f : Format) (y x : Float) → T (le one y) → T (finite y) → T (le (neg y) x) → T (le x y) → Small (div f x y) 1
-unfolding le neg
-over_size f nan x h g k l = absurd g
-over_size f (inf t) x h g k l = absurd g
-over_size f (fin true n d) x h g k l = absurd (true_false (one_most true n d h).0)
-over_size f (fin false n d) nan h g k l = absurd l
-over_size f (fin false n d) (inf true) h g k l = absurd k
-over_size f (fin false n d) (inf false) h g k l = absurd l
-over_size f (fin false n d) (fin true m e) h g k l =
-    div_at_most f true m e false n d 1 (pow_pos (prec f)) (some n d (one_most false n d h).1)
-    (omega (arith, le_order (fin true n d) (fin true m e) tt tt k))
-over_size f (fin false n d) (fin false m e) h g k l =
-    div_at_most f false m e false n d 1 (pow_pos (prec f)) (some n d (one_most false n d h).1)
-    (omega (arith, le_order (fin false m e) (fin false n d) tt tt l))
 
 -- ---- bounds by comparisons with y, which is b or -b, and back
 

@@ -28,15 +28,6 @@ pub same_refl : (xs : List ℕ) → same xs xs ≡ true
 same_refl [] = refl
 same_refl (x ∷ xs) = rw (eq-eqb x x refl, same_refl xs)
 
--- an answer that is true exactly where two lists are equal is the test's
-pub same_is : (r : Bool) (xs ys : List ℕ) → (r ≡ true → xs ≡ ys) → (xs ≡ ys → r ≡ true) → r ≡ same ys xs
-same_is true xs ys f g = rw (f refl) (sym (same_refl ys))
-same_is false xs ys f g = by (same ys xs) refl
-  where
-    by : (b : Bool) → same ys xs ≡ b → false ≡ same ys xs
-    by true e = g (sym (same→eq ys xs (subst (λ (x : Bool). T x) (sym e) tt))) ∙ sym e
-    by false e = sym e
-
 -- a test that holds of each number below m
 abbrev pub below : (ℕ → Bool) → ℕ → Bool
 below f zero = true

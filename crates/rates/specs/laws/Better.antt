@@ -7,7 +7,7 @@ use Rattle.std.specs.Float.{binary32}
 use Rattle.std.specs.Float.Ieee.{add, le, lt}
 use Rattle.laws.specs.laws.Tests.{both}
 use Rattle.ucb1.specs.Ucb1.{exploration_of}
-use Rattle.ucb1.specs.laws.Dominated.{dominated_not_above}
+use Rattle.ucb1.proofs.Dominated.{dominated_not_above}
 use Rattle.rates.specs.declared.Best.{Best}
 use Rattle.rates.specs.declared.Weights.{Weights}
 use Rattle.rates.specs.Best.{gained_of, rate_of, child_of, better_of}

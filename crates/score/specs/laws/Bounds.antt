@@ -9,7 +9,7 @@ use Rattle.std.specs.Float.Ieee.Scale.{finite}
 use Rattle.laws.specs.Bits.{has}
 use Rattle.laws.specs.Floats.{hundredths, one, minus_one}
 use Rattle.laws.specs.laws.Order.{le_through, lt_after}
-use Rattle.laws.specs.laws.Within.{low_finite, high_finite, within_finite}
+use Rattle.laws.proofs.Within.{low_finite, high_finite, within_finite}
 use Rattle.action.specs.Actions as A
 use Rattle.action.specs.Bounds.{Rows, RowsIn}
 use Rattle.craft_context.specs.declared.context.CraftContext.{CraftContext}

@@ -9,7 +9,7 @@ use Rattle.laws.specs.Floats.{float, hundredths, one}
 use Rattle.laws.specs.laws.Floats.{fifth_bits, sixty_five_bits, twentieth_bits}
 use Rattle.laws.specs.laws.Small.{of_nat_value}
 use Rattle.laws.specs.laws.NoNan.{finite_no_nan, add_minus_inf, over_zero}
-use Rattle.laws.specs.laws.Within.{Within, within_finite}
+use Rattle.laws.proofs.Within.{Within, within_finite}
 use Rattle.action.specs.Limits.{amount_most}
 use Rattle.craft_context.specs.declared.context.CraftContext.{CraftContext}
 use Rattle.craft_state.specs.declared.state.CraftState.{CraftState}

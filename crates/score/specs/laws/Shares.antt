@@ -11,7 +11,7 @@ use Rattle.laws.specs.laws.Small.{Small, small_more, of_nat_value}
 use Rattle.laws.specs.laws.NoNan.{over_zero}
 use Rattle.laws.specs.laws.Order.{le_same, lt_le, plus_least}
 use Rattle.laws.specs.laws.Monotone.{quotient_up}
-use Rattle.laws.specs.laws.Within.{Within, within_same, add_within, mul_within, sub_within}
+use Rattle.laws.proofs.Within.{Within, within_same, add_within, mul_within, sub_within}
 use Rattle.action.specs.Limits.{amount_most}
 use Rattle.craft_state.specs.Limits.{step_most, durability_least}
 use Rattle.craft_state.specs.Inside.{DurabilityIn}

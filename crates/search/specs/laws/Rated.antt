@@ -10,7 +10,7 @@ use Rattle.laws.specs.Floats.{float, one}
 use Rattle.laws.specs.laws.Tests.{either, both}
 use Rattle.craft_context.specs.declared.context.CraftContext.{CraftContext}
 use Rattle.ucb1.specs.Fair.{Fair}
-use Rattle.ucb1.specs.laws.Bounds.{ucb1_finite}
+use Rattle.ucb1.proofs.Bounds.{ucb1_finite}
 use Rattle.tree.specs.declared.node.Node.{Node}
 use Rattle.tree.specs.Node.{plus_zero}
 use Rattle.tree.specs.Sound.{is_maximum, minus}

@@ -3,7 +3,7 @@
 use Rattle.std.specs.Prelude.{◌≡◌, ℕ, ◌<◌, ◌≤◌, Bool, true, false, cond, List, ◌==◌, nat_eq, Float}
 use Rattle.std.proofs.Common.{sym, ap, ◌∙◌, arith}
 use Rattle.craft_context.specs.declared.context.CraftContext.{CraftContext}
-use Rattle.ucb1.specs.laws.Bounds.{ucb1_finite}
+use Rattle.ucb1.proofs.Bounds.{ucb1_finite}
 use Rattle.rates.specs.declared.Best.{Best}
 use Rattle.rates.specs.declared.Weights.{Weights}
 use Rattle.rates.specs.Best.{no_best}

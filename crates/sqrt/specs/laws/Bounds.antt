@@ -8,7 +8,8 @@ use Rattle.std.specs.Float.Ieee.Fits.{down_pos, of_int-fits}
 use Rattle.std.specs.Float.Ieee.Exact.{HasValue}
 use Rattle.std.specs.Float.Ieee.Positive.{positive}
 use Rattle.laws.specs.Floats.{float}
-use Rattle.laws.specs.laws.Small.{Small, small_finite, of_nat_small, of_nat_value}
+use Rattle.laws.specs.laws.Small.{Small, small_finite, of_nat_value}
+use Rattle.laws.proofs.Small.{of_nat_small}
 use Rattle.laws.specs.laws.AtLeast.{AtLeast0, positive_least, negative_least, least_no_nan}
 use Rattle.sqrt.specs.Sqrt.{digits_end, sqrt_of}
 use Rattle.sqrt.specs.Root.{size, Root}

@@ -30,7 +30,7 @@ module _ (m k : ℕ) (p : 0 < m) (h : m < digits_end) where
 -- by the zeros, where they are counted already
 pub shift_is : (m k zeros : ℕ) → zeros ≡ count_leading_zeros 32 m → shift_by zeros k ≡ shift m k
 unfolding shift
-shift_is m k zeros e = ap (λ (z : ℕ). shift_by z k) e
+shift_is m k counted e = ap (λ (z : ℕ). shift_by z k) e
 
 pub normal_zeros : (m : ℕ) → hidden ≤ m → m < digits_end → 8 ≡ count_leading_zeros 32 m
 normal_zeros m h l = leading_unique 32 m 8 24 refl l (omega arith)

@@ -11,7 +11,8 @@ use Rattle.std.specs.Float.Ieee.Digits.{Equals}
 use Rattle.std.specs.Float.Ieee.Exact.{HasValue}
 use Rattle.std.specs.Float.Ieee.Order.{le_of_values}
 use Rattle.laws.specs.laws.Tests.{true_false, both, and_both}
-use Rattle.laws.specs.laws.Small.{Small, of_nat_value, truncated_small, add_small}
+use Rattle.laws.specs.laws.Small.{Small, of_nat_value, truncated_small}
+use Rattle.laws.proofs.Small.{add_small}
 use Rattle.action.specs.Known.{known}
 use Rattle.tree.specs.declared.node.Node.{Node}
 use Rattle.tree.specs.Node.{plus_zero, visits_most, count_most, node_of, root_node, is_score, is_full, greater_of, touched_of}

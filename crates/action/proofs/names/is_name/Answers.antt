@@ -6,7 +6,7 @@ use Prim.Native.Nat.{ℕ}
 use native.Mathlib.Omega.{arith}
 use borrow.Author.Rules.{rules}
 use Rattle.laws.specs.Lists.{same}
-use Rattle.laws.specs.laws.Same.{same_is}
+use Rattle.laws.proofs.Same.{same_is}
 use Rattle.action.specs.Names.{name_of}
 use Rattle.action.specs.inner.Texts.{names}
 use Rattle.action.proofs.Run.{Part, run, starts, name_part}

@@ -9,11 +9,11 @@ use Rattle.std.specs.Float.Ieee.Fits.{div-fits}
 use Rattle.laws.specs.laws.Order.{lt_or_ge}
 use Rattle.laws.specs.laws.Small.{small_finite}
 use Rattle.laws.specs.laws.Monotone.{add_up, over_down}
-use Rattle.laws.specs.laws.Within.{within_finite}
+use Rattle.laws.proofs.Within.{within_finite}
 use Rattle.sqrt.specs.laws.Order.{sqrt_up}
 use Rattle.ucb1.specs.Ucb1.{exploitation_of, exploration_of, ucb1_of}
 use Rattle.ucb1.specs.Fair.{Fair}
-use Rattle.ucb1.specs.laws.Bounds.{product_small, product_least, quotient_small, quotient_least, exploitation_within, exploration_within, ucb1_finite}
+use Rattle.ucb1.proofs.Bounds.{product_small, product_least, quotient_small, quotient_least, exploitation_within, exploration_within, ucb1_finite}
 
 module _ {w c ln visits sum maximum visits' sum' maximum' : Float} (fair : Fair w c ln visits sum maximum) (fair' : Fair w c ln visits' sum' maximum')
     (more : T (le visits visits')) where

@@ -6,7 +6,8 @@ use Rattle.std.specs.Float.{nan, inf, fin, Format}
 use Rattle.std.specs.Float.Ieee.{prec, neg, add, sub, mul, le}
 use Rattle.std.specs.Float.Ieee.Scale.{finite}
 use Rattle.laws.specs.laws.Plus.{Plus}
-use Rattle.laws.specs.laws.Small.{Small, small_finite, add_small, sub_small, mul_small}
+use Rattle.laws.specs.laws.Small.{Small, small_finite}
+use Rattle.laws.proofs.Small.{add_small, sub_small, mul_small}
 use Rattle.laws.specs.laws.Order.{le_same}
 use Rattle.laws.specs.laws.Monotone.{neg_down, add_up, mul_up}
 

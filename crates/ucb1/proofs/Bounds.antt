@@ -9,11 +9,13 @@ use Rattle.std.specs.Float.Ieee.Fits.{and_i, div-fits}
 use Rattle.std.specs.Float.Ieee.Scale.{finite}
 use Rattle.laws.specs.Floats.{float, one, minus_one}
 use Rattle.laws.specs.laws.Tests.{and_left, and_right}
-use Rattle.laws.specs.laws.Small.{Small, small_more, of_nat_value, of_nat_small, mul_small}
+use Rattle.laws.specs.laws.Small.{Small, small_more, of_nat_value}
+use Rattle.laws.proofs.Small.{of_nat_small, mul_small}
 use Rattle.laws.specs.laws.NoNan.{finite_no_nan}
 use Rattle.laws.specs.laws.Order.{one_of, one_of_three}
-use Rattle.laws.specs.laws.Within.{Within, within_finite, add_within, sub_within}
-use Rattle.laws.specs.laws.AtLeast.{AtLeast0, mul_least, over_one_small, over_one_least, over_size, small_to, small_from, least_small}
+use Rattle.laws.proofs.Within.{Within, within_finite, add_within, sub_within}
+use Rattle.laws.specs.laws.AtLeast.{AtLeast0, small_to, small_from, least_small}
+use Rattle.laws.proofs.AtLeast.{mul_least, over_one_small, over_one_least, over_size}
 use Rattle.sqrt.specs.Sqrt.{sqrt_of}
 use Rattle.sqrt.specs.laws.Bounds.{sqrt_least, sqrt_small}
 use Rattle.ucb1.specs.Ucb1.{exploitation_of, exploration_of, ucb1_of}

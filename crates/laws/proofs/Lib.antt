@@ -1,0 +1,4 @@
+pub mod Same
+pub mod Small
+pub mod AtLeast
+pub mod Within
