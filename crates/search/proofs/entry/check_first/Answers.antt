@@ -1,6 +1,6 @@
 -- `search::entry::check_first` meets its contract.
 -- Assumes nothing.
-use Rattle.std.proofs.Common.{[], ◌∷◌, rules}
+use Rattle.std.proofs.Common.{[], ◌∷◌}
 use Rattle.refusal.specs.Judge.{room_test}
 use Rattle.refusal.specs.laws.Judge.{checks_stop_by, checks_on_by, checks_stop, checks_on, alone}
 use Rattle.craft_context.specs.Limits.{context_tests}

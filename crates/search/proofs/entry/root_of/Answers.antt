@@ -1,6 +1,6 @@
 -- `search::entry::root_of` meets its contract.
 -- Assumes nothing.
-use Rattle.std.proofs.Common.{ap, ◌∙◌, rules}
+use Rattle.std.proofs.Common.{ap, ◌∙◌}
 use Rattle.simulator.specs.declared.replay.Replay.{Replay}
 use Rattle.simulator.specs.Replay.{stop_by, replay_from, replay_by}
 use Rattle.tree.specs.Node.{root_node}

@@ -1,6 +1,6 @@
 -- `search::entry::search` meets its contract: each way out of it is one of the ways out of the statement.
 -- Assumes nothing.
-use Rattle.std.proofs.Common.{◌≡◌, ℕ, ◌≤◌, sym, ap, ◌∙◌, refl, set, arith}
+use Rattle.std.proofs.Common.{◌≡◌, ◌≤◌, sym, ap, ◌∙◌, refl, set, arith}
 use Rattle.refusal.specs.declared.Checked.TheVariants.{Passed}
 use Rattle.refusal.specs.Judge.{checks_of}
 use Rattle.craft_state.specs.Limits.{step_most}

@@ -1,7 +1,6 @@
 -- `search::iterate::iterate` meets its contract: a plan that is refused is an iteration that is, and one that passes has what carrying it out asks for.
 -- Assumes nothing.
-use Rattle.std.proofs.Common.{◌≡◌, ℕ, ◌+◌, ◌<◌, ◌≤◌, ◌^◌, length, sym, ◌∙◌, refl, arith}
-use Rattle.rollout.specs.inner.Movable.{Movable}
+use Rattle.std.proofs.Common.{◌≡◌, ◌<◌, ◌≤◌, length, sym, ◌∙◌, refl, arith}
 use Rattle.search.specs.laws.Planned.{plan, chosen_inside, chosen_movable, chosen_plan, plan_refused, plan_storing, plan_turns}
 use Rattle.search.proofs.iterate.iterate.Goals as goal
 use Rattle.search.proofs.iterate.iterate.Goals.{After-select-chosen, After-plan_at-plan}

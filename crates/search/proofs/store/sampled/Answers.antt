@@ -1,6 +1,5 @@
 -- `search::store::sampled` meets its contract: a draw below the size names a member, and a member is a known action.
 -- Assumes nothing.
-use Rattle.std.proofs.Common.{rules}
 use Rattle.action_set.specs.laws.Nth.{nth_named}
 use Rattle.search.proofs.store.sampled.Goals as goal
 

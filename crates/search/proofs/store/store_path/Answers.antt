@@ -1,6 +1,6 @@
 -- `search::store::store_path` meets its contract: the loop's state is how many records are stored, the last of them, the state there, the records and the index.
 -- Assumes nothing.
-use Rattle.std.proofs.Common.{◌≡◌, ◌*◌, ◌<◌, ◌+◌, ◌-◌, ℕ, slice_index, sym, ap, ◌∙◌, subst, arith}
+use Rattle.std.proofs.Common.{◌≡◌, ◌+◌, ℕ, slice_index, sym, ap, ◌∙◌, subst}
 use Rattle.action.specs.Table.{attributes_of}
 use Rattle.action_set.specs.Sets.{nth_of}
 use Rattle.craft_state.specs.Inside.{CraftIn}
@@ -9,8 +9,7 @@ use Rattle.step.specs.inner.Asked.{Playable}
 use Rattle.tree.specs.declared.node.Node.{Node}
 use Rattle.tree.specs.Tree.{node_at}
 use Rattle.search.specs.Iterate.{below_of}
-use Rattle.search.specs.inner.Ready.{Storing}
-use Rattle.search.specs.laws.Storing.{store_draw, store_room, store_set, store_low, store_playable, store_craft, part_first, part_on, part_more, part_all}
+use Rattle.search.specs.laws.Storing.{store_draw, store_room, store_set, store_low, store_playable, store_craft, part_on, part_more, part_all}
 use Rattle.search.proofs.store.store_path.Goals as goal
 use Rattle.search.proofs.store.store_path.Goals.{After-sampled-action}
 
