@@ -1,10 +1,16 @@
 -- `search::select::best_linked` meets its contract: the best so far is on the way by the index from the last child.
 -- Assumes nothing.
-use Rattle.std.proofs.Common.{ℕ, ap, subst, ◌∙◌, arith}
+use Rattle.std.proofs.Common.{ℕ, sym, ap, subst, ◌∙◌, arith}
+use Rattle.rates.specs.inner.Holds.{Asks}
 use Rattle.tree.specs.declared.node.Node.{Node}
 use Rattle.search.specs.inner.Newest.{better_node}
-use Rattle.search.specs.laws.Indexed.{Way, way_less, way_on, way_end}
+use Rattle.search.specs.laws.Indexed.{Way, way_asks, way_less, way_on, way_end}
 use Rattle.search.proofs.select.best_linked.Goals as goal
+
+pub better_node-best-requires : goal.better_node-best-requires
+better_node-best-requires c =
+    let l = c.loop-k in
+    subst (λ (n : Node). Asks l.best n.visits n.score_sum n.max_score c.args.weights) (sym c.node_at-n.ensures) (way_asks c.requires.0 l.invariant (omega arith))
 
 pub loop-k-smaller : goal.loop-k-smaller
 loop-k-smaller c = rw c.older-k.ensures (way_less c.requires.0 c.loop-k.invariant (omega arith))
