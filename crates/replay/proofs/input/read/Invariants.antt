@@ -5,7 +5,7 @@ use Rattle.replay.specs.Input.{room}
 use Rattle.replay.proofs.input.read.Given as goal
 
 abbrev pub invariant-loop-at : goal.invariant-loop-at
-invariant-loop-at l = (l.at ≤ length l.input) × (length l.input ≡ room)
+invariant-loop-at g l = (l.at ≤ length l.input) × (length l.input ≡ room)
 
 abbrev pub decreases-loop-at : goal.decreases-loop-at
-decreases-loop-at l = length l.input - l.at
+decreases-loop-at g l = length l.input - l.at
