@@ -3,7 +3,7 @@
 use Rattle.std.specs.Prelude.{Bool, true, false, cond, List, ◌∷◌, ◌++◌, ℕ, zero, suc, ◌+◌}
 use Rattle.text.specs.Bytes.{bytes}
 use Rattle.laws.specs.Lists.{same, elem}
-use Rattle.action.specs.Table.{Action, action_of, attributes_of}
+use Rattle.action.specs.Table.{action_of, attributes_of}
 use Rattle.action.specs.Known.{actions}
 use Rattle.action.specs.Wait.{wait_of}
 use Rattle.action.specs.declared.texts.Text.{Text}

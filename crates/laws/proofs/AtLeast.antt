@@ -1,21 +1,19 @@
 -- Products and quotients of floats that are at least 0: what rests on `round_small`.
 -- Assumes nothing.
-use Rattle.std.specs.Prelude.{◌≡◌, refl, Bool, true, false, not, ℕ, zero, suc, ◌*◌, ◌^◌, ◌≤◌, ◌<◌, T, ℤ, pos, Float}
-use Rattle.std.proofs.Common.{sym, ap, ◌∙◌, zero-le, le_trans, le_of_eq, lt_irrefl, lt_of_lt_of_le, zero-lt-suc, mul_comm, mul_assoc, mul_right_comm, mul-pos, mul-le-mul, mul-le-mul_right, le_of_mul-le-mul_right, mul-one, zero-mul, mul-zero, arith, pow_pos, ne_eqb}
+use Rattle.std.specs.Prelude.{◌≡◌, refl, Bool, true, false, ℕ, ◌*◌, ◌^◌, ◌≤◌, ◌<◌, T, Float}
+use Rattle.std.proofs.Common.{zero-le, le_trans, le_of_eq, mul-pos, mul-le-mul, zero-mul, arith, pow_pos, ne_eqb}
 use Rattle.std.proofs.Math.Nat.{mul-mul-mul_comm}
 use Rattle.std.specs.Float.{nan, inf, fin, Format}
-use Rattle.std.specs.Float.Ieee.{prec, up, down, unlike, round, mul, div, neg, le, of_int, is_nan}
-use Rattle.std.specs.Float.Ieee.Exact.{HasValue}
+use Rattle.std.specs.Float.Ieee.{prec, up, down, unlike, round, mul, div, neg, le}
 use Rattle.std.specs.Float.Ieee.Fits.{up_pos, down_pos}
-use Rattle.std.specs.Float.Ieee.Positive.{positive, first_pos}
 use Rattle.std.specs.Float.Ieee.Scale.{finite}
 use Rattle.laws.specs.laws.Tests.{true_false}
-use Rattle.laws.specs.Floats.{float, one}
-use Rattle.laws.specs.laws.Plus.{Plus, plus_round}
+use Rattle.laws.specs.Floats.{one}
+use Rattle.laws.specs.laws.Plus.{plus_round}
 use Rattle.laws.specs.laws.Small.{Small, small_finite, round_small}
-use Rattle.laws.specs.laws.Order.{minus_by, order_le, le_order}
+use Rattle.laws.specs.laws.Order.{minus_by, le_order}
 use Rattle.laws.proofs.Small.{div_at_most}
-use Rattle.laws.specs.laws.AtLeast.{AtLeast0, least_minus, minus_least, plus_at_least, nothing_least, minus_product, one_most, some, no_more}
+use Rattle.laws.specs.laws.AtLeast.{AtLeast0, least_minus, plus_at_least, nothing_least, minus_product, one_most, some, no_more}
 
 round_least : (f : Format) (s : Bool) (a c b : ℕ) → 0 < c → b ≤ 2 ^ prec f → a ≤ b * c → minus_by s a ≡ 0 → AtLeast0 (round f s a c)
 round_least f false a c b C B h e = plus_at_least (round f false a c) (plus_round f a c) (small_finite (round f false a c) b (round_small f false a c b C B h))

@@ -1,8 +1,7 @@
 -- A test of two lists, known by what it answers: what rests on `same→eq`.
 -- Assumes nothing.
-use Rattle.std.specs.Prelude.{◌≡◌, refl, Bool, true, false, not, ◌&&◌, List, [], ◌∷◌, ℕ, zero, suc, ◌<◌, T, eqb}
-use Rattle.std.proofs.Common.{sym, subst, ◌∙◌, ⊎_elim, eq-or-lt_of_le, le_of_suc-le-suc, not-suc-le-zero, eqb→eq, eq-eqb}
-use Rattle.laws.specs.laws.Tests.{and_left, and_right}
+use Rattle.std.specs.Prelude.{◌≡◌, refl, Bool, true, false, List, ℕ, T}
+use Rattle.std.proofs.Common.{sym, subst, ◌∙◌}
 use Rattle.laws.specs.Lists.{same}
 use Rattle.laws.specs.laws.Same.{same→eq, same_refl}
 

@@ -1,18 +1,14 @@
 -- Each operation keeps the bound of `Small`, up to 2 ^ prec: what rests on `round_small`.
 -- Assumes nothing.
-use Rattle.std.specs.Prelude.{◌≡◌, refl, Bool, true, false, cond, ◌&&◌, ◌||◌, ℕ, zero, suc, ◌+◌, ◌-◌, ◌*◌, ◌/◌, ◌^◌, ◌≤◌, ◌<◌, min, T, ltb, eqb, ℤ, pos, Float}
-use Rattle.std.proofs.Common.{sym, ap, ◌∙◌, subst, zero-le, le_trans, le_of_eq, le_of_lt, lt_of_le_of_lt, lt_irrefl, zero-lt-suc, mul_assoc, mul_comm, mul_right_comm, mul-one, one-mul, zero-mul, add-mul, mul-pos, mul-le-mul, mul-le-mul_right, mul-lt-mul_of_pos_right, le_of_mul-le-mul_right, arith, ltb→lt, lt→ltb, eqb→eq, pow_pos}
+use Rattle.std.specs.Prelude.{◌≡◌, Bool, true, false, cond, ◌&&◌, ℕ, zero, suc, ◌+◌, ◌-◌, ◌*◌, ◌^◌, ◌≤◌, ◌<◌, ltb, ℤ, pos, Float}
+use Rattle.std.proofs.Common.{sym, ap, ◌∙◌, le_trans, le_of_eq, lt_irrefl, zero-lt-suc, mul_assoc, mul_comm, mul_right_comm, mul-one, zero-mul, add-mul, mul-pos, mul-le-mul, mul-le-mul_right, arith, pow_pos}
 use Rattle.std.specs.Bool.{beq}
-use Rattle.std.proofs.Math.Nat.{min-le_left, min-eq_left, div-le_of_le-mul, mul-mul-mul_comm}
+use Rattle.std.proofs.Math.Nat.{mul-mul-mul_comm}
 use Rattle.std.proofs.Math.Dec.{eqb-suc-zero}
 use Rattle.std.specs.Float.{nan, inf, fin, Format}
-use Rattle.std.specs.Float.Ieee.{prec, emax, low, up, down, unlike, odd, units, round, sum, add, sub, neg, mul, div, lt, eq, le, of_int, to_unsigned}
-use Rattle.std.specs.Float.Ieee.Fits.{round_is, up_pos, down_pos}
+use Rattle.std.specs.Float.Ieee.{prec, up, down, unlike, round, sum, add, sub, neg, mul, div, of_int}
+use Rattle.std.specs.Float.Ieee.Fits.{up_pos, down_pos}
 use Rattle.std.specs.Float.Ieee.Exact.{HasValue}
-use Rattle.std.specs.Float.Ieee.Order.{round_mono, kept, drop}
-use Rattle.std.specs.Float.Ieee.Back.{round_whole}
-use Rattle.std.specs.Float.Ieee.Scale.{finite}
-use Rattle.laws.specs.laws.Plus.{Plus, plus_round}
 use Rattle.laws.specs.laws.Small.{Small, round_small, neg_small}
 
 pub of_nat_small : (f : Format) (n b : ℕ) → n ≤ b → b ≤ 2 ^ prec f → Small (of_int f (pos n)) b

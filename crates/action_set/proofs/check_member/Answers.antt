@@ -1,7 +1,6 @@
 -- `check_member` meets its contract.
 -- Assumes nothing.
 use mathlib.Core.List.{[], ◌∷◌}
-use borrow.Author.Rules.{rules}
 use Rattle.refusal.specs.laws.Judge.{alone, checks_stop, checks_on, checks_alone}
 use Rattle.action.specs.Known.{action_test}
 use Rattle.action_set.specs.Sets.{set_test}

@@ -1,6 +1,6 @@
 -- A base factor before its truncation is not negative and at most 200,070: what the truncation asks.
 -- Assumes nothing.
-use Rattle.std.specs.Prelude.{ℕ, ◌*◌, ◌<◌, ◌≤◌, Bool, true, false}
+use Rattle.std.specs.Prelude.{ℕ, ◌*◌, ◌≤◌, Bool, true, false}
 use Rattle.std.proofs.Common.{le_trans, arith, lit<, lit≤}
 use Rattle.std.specs.Float.{binary32}
 use Rattle.std.specs.Float.Ieee.{div}

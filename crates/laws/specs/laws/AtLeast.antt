@@ -1,18 +1,17 @@
 -- Floats that are at least 0, minus zero among them, and bounds by comparisons: what products and quotients keep of them.
 -- Assumes nothing.
-use Rattle.std.specs.Prelude.{◌≡◌, refl, Bool, true, false, not, ℕ, zero, suc, ◌*◌, ◌^◌, ◌≤◌, ◌<◌, T, ℤ, pos, Float}
-use Rattle.std.proofs.Common.{sym, ap, ◌∙◌, zero-le, le_trans, le_of_eq, lt_irrefl, lt_of_lt_of_le, zero-lt-suc, mul_comm, mul_assoc, mul_right_comm, mul-pos, mul-le-mul, mul-le-mul_right, le_of_mul-le-mul_right, mul-one, zero-mul, mul-zero, arith, pow_pos, ne_eqb}
-use Rattle.std.proofs.Math.Nat.{mul-mul-mul_comm}
-use Rattle.std.specs.Float.{nan, inf, fin, Format}
-use Rattle.std.specs.Float.Ieee.{prec, up, down, unlike, round, mul, div, neg, le, of_int, is_nan}
+use Rattle.std.specs.Prelude.{◌≡◌, refl, Bool, true, false, not, ℕ, suc, ◌*◌, ◌≤◌, ◌<◌, T, ℤ, pos, Float}
+use Rattle.std.proofs.Common.{sym, ap, ◌∙◌, zero-le, le_trans, le_of_eq, lt_irrefl, lt_of_lt_of_le, zero-lt-suc, mul_comm, mul_assoc, mul_right_comm, mul-pos, mul-le-mul, mul-le-mul_right, le_of_mul-le-mul_right, mul-one, zero-mul, mul-zero, arith}
+use Rattle.std.specs.Float.{nan, inf, fin}
+use Rattle.std.specs.Float.Ieee.{up, down, unlike, le, of_int, is_nan}
 use Rattle.std.specs.Float.Ieee.Exact.{HasValue}
 use Rattle.std.specs.Float.Ieee.Fits.{up_pos, down_pos}
 use Rattle.std.specs.Float.Ieee.Positive.{positive, first_pos}
 use Rattle.std.specs.Float.Ieee.Scale.{finite}
 use Rattle.laws.specs.laws.Tests.{true_false}
 use Rattle.laws.specs.Floats.{float, one}
-use Rattle.laws.specs.laws.Plus.{Plus, plus_round}
-use Rattle.laws.specs.laws.Small.{Small, small_finite}
+use Rattle.laws.specs.laws.Plus.{Plus}
+use Rattle.laws.specs.laws.Small.{Small}
 use Rattle.laws.specs.laws.Order.{minus_by, order_le, le_order}
 
 abbrev pub AtLeast0 : Float → Type 0

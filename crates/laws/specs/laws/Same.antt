@@ -1,7 +1,7 @@
 -- Tests that compare: two lists are the same, and a rule holds of each number below a bound.
 -- Assumes nothing.
 use Rattle.std.specs.Prelude.{◌≡◌, refl, Bool, true, false, not, ◌&&◌, List, [], ◌∷◌, ℕ, zero, suc, ◌<◌, T, eqb}
-use Rattle.std.proofs.Common.{sym, subst, ◌∙◌, ⊎_elim, eq-or-lt_of_le, le_of_suc-le-suc, not-suc-le-zero, eqb→eq, eq-eqb}
+use Rattle.std.proofs.Common.{sym, subst, ⊎_elim, eq-or-lt_of_le, le_of_suc-le-suc, not-suc-le-zero, eqb→eq, eq-eqb}
 use Rattle.laws.specs.laws.Tests.{and_left, and_right}
 use Rattle.laws.specs.Lists.{same}
 

@@ -12,7 +12,6 @@ use mir.Syntax.{w64}
 use mir.Val.{Fits}
 use Rattle.sqrt.specs.Sqrt.{infinity_bits}
 use Rattle.sqrt.specs.laws.Patterns.{no_nan}
-use Rattle.sqrt.specs.laws.Cases.{yes, below_no_nan}
 use Rattle.sqrt.proofs.guess_of.Goals as goal
 
 -- a finite pattern's value is one of the wider format

@@ -1,8 +1,7 @@
 -- `sqrt::root_bits` meets its contract.
 -- Assumes nothing.
-use mathlib.Core.Path.{refl, ◌∙◌}
+use mathlib.Core.Path.{◌∙◌}
 use native.Mathlib.Omega.{arith}
-use lib.Dec.{lit<}
 use Rattle.sqrt.specs.laws.Scaled.{normal_zeros}
 use Rattle.sqrt.specs.laws.Patterns.{of_subnormal, of_normal}
 use Rattle.sqrt.proofs.root_bits.Goals as goal

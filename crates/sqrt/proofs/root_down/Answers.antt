@@ -1,7 +1,5 @@
 -- `sqrt::root_down` meets its contract: r is never below the root.
 -- Assumes nothing.
-use Prim.Native.Nat.{◌+◌, ◌*◌, ◌≤◌, ◌<◌}
-use native.Mathlib.Nat.{mul-le-mul, div-le_self}
 use native.Mathlib.Omega.{arith}
 use Rattle.sqrt.specs.Sqrt.{digits_end}
 use Rattle.sqrt.proofs.Newton.{newton_above, newton_below, sq_pos}

@@ -1,8 +1,6 @@
 -- `sqrt::root_near` meets its contract.
 -- Assumes nothing.
-use borrow.Author.Rules.{rules}
-use native.Mathlib.Nat.{mul-le-mul, le_of_lt}
-use native.Mathlib.Omega.{arith}
+use native.Mathlib.Nat.{le_of_lt}
 use Rattle.sqrt.specs.laws.Cut.{guess_near}
 use Rattle.sqrt.proofs.root_near.Goals as goal
 

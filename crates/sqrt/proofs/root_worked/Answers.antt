@@ -1,6 +1,5 @@
 -- `sqrt::root_worked` meets its contract.
 -- Assumes nothing.
-use borrow.Author.Rules.{rules}
 use native.Mathlib.Omega.{arith}
 use Rattle.sqrt.specs.laws.Cut.{near_up, near_down}
 use Rattle.sqrt.proofs.root_worked.Goals as goal

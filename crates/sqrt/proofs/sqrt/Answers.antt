@@ -5,7 +5,7 @@ use Prim.Native.Nat.{ℕ}
 use lib.Dec.{T}
 use lib.Ieee.{binary32, fits, of_bits, nan_bits}
 use lib.Ieee.Positive.{positive}
-use Rattle.sqrt.specs.laws.Cases.{yes, no, above_zero, below_inf, positive_no_nan, at_positive, at_inf, at_zero, at_other}
+use Rattle.sqrt.specs.laws.Cases.{yes, no, above_zero, below_inf, at_positive, at_inf, at_zero, at_other}
 use Rattle.sqrt.specs.laws.Patterns.{in_range, no_nan}
 use Rattle.sqrt.proofs.sqrt.Goals as goal
 use Rattle.sqrt.proofs.sqrt.Goals.{Start, Then-x-2}

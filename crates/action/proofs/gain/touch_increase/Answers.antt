@@ -2,9 +2,8 @@
 -- Assumes nothing.
 use Prim.Native.Nat.{◌+◌, ◌*◌, ◌≤◌}
 use native.Mathlib.Omega.{arith}
-use borrow.Author.Rules.{rules}
 use Rattle.action.specs.Limits.{factor_most, quality_most}
-use Rattle.action.specs.laws.Gain.{touch_two, touch_three, touch_four}
+use Rattle.action.specs.laws.Gain.{touch_four}
 use Rattle.action.proofs.gain.touch_increase.Goals as goal
 use Rattle.action.proofs.gain.touch_increase.Goals.{After-multiplier-m}
 

@@ -1,9 +1,6 @@
 -- `action::known::check_list` meets its contract: after i turns the first i numbers are actions.
 -- Assumes nothing.
-use Prim.Native.Nat.{◌-◌}
-use native.Mathlib.Omega.{arith}
-use lib.ListN.{length}
-use Rattle.action.specs.laws.Known.{Front, front_none, front_more, front_ends, front_all}
+use Rattle.action.specs.laws.Known.{front_more, front_ends, front_all}
 use Rattle.action.proofs.known.check_list.Goals as goal
 
 pub returns-then-n-ge-ACTIONS : goal.returns-then-n-ge-ACTIONS

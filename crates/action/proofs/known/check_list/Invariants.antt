@@ -1,9 +1,8 @@
 -- `action::known::check_list` meets its contract: after i turns the first i numbers are actions.
 -- Assumes nothing.
 use Prim.Native.Nat.{◌-◌}
-use native.Mathlib.Omega.{arith}
 use lib.ListN.{length}
-use Rattle.action.specs.laws.Known.{Front, front_none, front_more, front_ends, front_all}
+use Rattle.action.specs.laws.Known.{Front}
 use Rattle.action.proofs.known.check_list.Given as goal
 
 abbrev pub invariant-loop-i : goal.invariant-loop-i

@@ -2,9 +2,7 @@
 -- Assumes nothing.
 use mathlib.Core.Path.{◌≡◌, sym, ap, ◌∙◌}
 use Prim.Native.Nat.{ℕ}
-use native.Mathlib.Omega.{arith}
 use lib.ListN.{get_or}
-use borrow.Author.Rules.{rules}
 use Rattle.action.specs.Table.{action_of}
 use Rattle.action.specs.Names.{name_of}
 use Rattle.action.specs.inner.Texts.{key_of, holder, holders}

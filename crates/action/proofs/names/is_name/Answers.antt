@@ -3,8 +3,6 @@
 use mathlib.Core.Path.{ap, ◌∙◌}
 use mathlib.Core.List.{List}
 use Prim.Native.Nat.{ℕ}
-use native.Mathlib.Omega.{arith}
-use borrow.Author.Rules.{rules}
 use Rattle.laws.specs.Lists.{same}
 use Rattle.laws.proofs.Same.{same_is}
 use Rattle.action.specs.Names.{name_of}

@@ -1,7 +1,6 @@
 -- `action::names::key` meets its contract.
 -- Assumes nothing.
 use native.Mathlib.Omega.{arith}
-use borrow.Author.Rules.{rules}
 use Rattle.action.specs.inner.Texts.{key_of}
 use Rattle.action.proofs.names.key.Goals as goal
 

@@ -3,7 +3,6 @@
 use mathlib.Core.Path.{ap}
 use native.Mathlib.Omega.{arith}
 use lib.ListN.{length}
-use borrow.Author.Rules.{rules}
 use Rattle.text.specs.laws.Over.{put_as}
 use Rattle.action.specs.Names.{label_of}
 use Rattle.action.specs.inner.Texts.{labels}

@@ -127,9 +127,9 @@ unfolding action_of
 returns-after-n-eq28 c =
     c.row-in-28.ensures
     ∙ elim c.if-n-eq28.branch [
-        then-n-eq28 w ↦ rw w.level-is (at attributes_of w.if-n-eq28.true)
+      | then-n-eq28 w ↦ rw w.level-is (at attributes_of w.if-n-eq28.true)
       | else-n-eq28 w ↦ rw w.level-is (⊎_elim (λ e. absurd (w.if-n-eq28.false e)) (at attributes_of) c.in-28.is)
-      ]
+    ]
 
 pub returns-in-29 : goal.returns-in-29
 unfolding action_of
@@ -142,11 +142,11 @@ returns-after-n-eq4 c =
     let arm = c.in-4-to-5 in
     c.row-in-4-to-5.ensures
     ∙ elim c.if-n-eq4.branch [
-        then-n-eq4 w ↦ rw w.cp-is (at attributes_of w.if-n-eq4.true)
+      | then-n-eq4 w ↦ rw w.cp-is (at attributes_of w.if-n-eq4.true)
       | else-n-eq4 w ↦
-        rw w.cp-is
-        (sift same_row same_row_lem attributes_of ((4 ∷ []) ∷ arms) 0 6 tt (arm.in_default-own.rest, w.if-n-eq4.false) zero-le arm.if-n-lt6-own.true)
-      ]
+          rw w.cp-is
+          (sift same_row same_row_lem attributes_of ((4 ∷ []) ∷ arms) 0 6 tt (arm.in_default-own.rest, w.if-n-eq4.false) zero-le arm.if-n-lt6-own.true)
+    ]
 
 pub returns-in-31-to-255 : goal.returns-in-31-to-255
 unfolding action_of arms

@@ -1,7 +1,6 @@
 -- `action::texts::put_macro_text` meets its contract.
 -- Assumes nothing.
 use native.Mathlib.Omega.{arith}
-use borrow.Author.Rules.{rules}
 use Rattle.text.specs.laws.Over.{then}
 use Rattle.action.specs.Names.{macro_of}
 use Rattle.action.specs.laws.Names.{macro_length}

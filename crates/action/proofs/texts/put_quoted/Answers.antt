@@ -5,7 +5,6 @@ use mathlib.Core.List.{[], ◌∷◌, ◌++◌}
 use Prim.Native.Nat.{◌+◌}
 use native.Mathlib.Omega.{arith}
 use lib.ListN.{length, length-append}
-use borrow.Author.Rules.{rules}
 use Rattle.text.specs.laws.Over.{then, put_as}
 use Rattle.action.specs.Names.{quoted_of}
 use Rattle.action.specs.laws.Names.{quoted_spaced, quoted_plain}

@@ -5,7 +5,6 @@ use mathlib.Core.List.{List}
 use Prim.Native.Nat.{ℕ}
 use native.Mathlib.Omega.{arith}
 use lib.ListN.{length}
-use borrow.Author.Rules.{rules}
 use Rattle.text.specs.laws.Over.{put_as, Rendered, rendered}
 use Rattle.action.specs.Names.{label_of, quoted_of}
 use Rattle.action.specs.laws.Names.{label_short}

@@ -3,7 +3,6 @@
 use mathlib.Core.Path.{◌≡◌, ap, ◌∙◌}
 use mathlib.Core.List.{[], ◌∷◌}
 use Prim.Native.Nat.{ℕ, ◌+◌}
-use borrow.Author.Rules.{rules}
 use Rattle.text.specs.laws.Over.{then, put_as}
 use Rattle.action.specs.Wait.{wait_of}
 use Rattle.action.specs.Table.{attributes_of}

@@ -1,11 +1,7 @@
 -- `action::texts::spaced` meets its contract: no space stands before place i.
 -- Assumes nothing.
-use mathlib.Core.Path.{◌≡◌, refl, sym, ◌∙◌}
-use Prim.Native.Nat.{◌-◌}
-use native.Mathlib.Omega.{arith}
-use lib.ListN.{length, drop}
+use mathlib.Core.Path.{sym, ◌∙◌}
 use Rattle.laws.specs.laws.Lists.{elem_here, elem_later, elem_end}
-use Rattle.laws.specs.Lists.{elem}
 use Rattle.action.proofs.texts.spaced.Goals as goal
 
 pub returns-then-text-i-eq32 : goal.returns-then-text-i-eq32

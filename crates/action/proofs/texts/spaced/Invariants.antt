@@ -1,10 +1,8 @@
 -- `action::texts::spaced` meets its contract: no space stands before place i.
 -- Assumes nothing.
-use mathlib.Core.Path.{◌≡◌, refl, sym, ◌∙◌}
+use mathlib.Core.Path.{◌≡◌}
 use Prim.Native.Nat.{◌-◌}
-use native.Mathlib.Omega.{arith}
 use lib.ListN.{length, drop}
-use Rattle.laws.specs.laws.Lists.{elem_here, elem_later, elem_end}
 use Rattle.laws.specs.Lists.{elem}
 use Rattle.action.proofs.texts.spaced.Given as goal
 

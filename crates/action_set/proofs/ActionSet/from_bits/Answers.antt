@@ -1,7 +1,6 @@
 -- `ActionSet::from_bits` meets its contract.
 -- Assumes nothing.
 use mathlib.Core.Path.{refl}
-use borrow.Author.Rules.{rules}
 use Rattle.refusal.specs.laws.Judge.{stopped, onward, answered, checks_alone}
 use Rattle.action_set.proofs.ActionSet.from_bits.Goals as goal
 

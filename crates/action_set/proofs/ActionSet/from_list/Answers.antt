@@ -1,7 +1,6 @@
 -- `ActionSet::from_list` meets its contract.
 -- Assumes nothing.
 use mathlib.Core.Path.{refl, ap}
-use borrow.Author.Rules.{rules}
 use Rattle.refusal.specs.laws.Judge.{stopped, onward, answered}
 use Rattle.action_set.specs.Entries.{a_set}
 use Rattle.action.specs.laws.Known.{list_shown}

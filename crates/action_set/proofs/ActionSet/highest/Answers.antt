@@ -2,7 +2,6 @@
 -- Assumes nothing.
 use mathlib.Core.Path.{refl, sym, ap, ◌∙◌}
 use native.Mathlib.Omega.{arith}
-use borrow.Author.Rules.{rules}
 use Rattle.refusal.specs.laws.Judge.{stopped, onward, answered, checks_alone}
 use Rattle.laws.specs.laws.Bits.{highest_is, highest_none, top_member}
 use Rattle.action.specs.Known.{actions}

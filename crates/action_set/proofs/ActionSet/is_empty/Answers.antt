@@ -1,7 +1,6 @@
 -- `ActionSet::is_empty` meets its contract.
 -- Assumes nothing.
 use mathlib.Core.Path.{refl, ap}
-use borrow.Author.Rules.{rules}
 use Rattle.refusal.specs.laws.Judge.{stopped, onward, answered, checks_alone}
 use Rattle.action_set.specs.laws.Sets.{set_shown}
 use Rattle.action_set.specs.declared.Asked.TheVariants.{Is}

@@ -4,9 +4,8 @@ use mathlib.Core.Path.{◌≡◌, refl, ap, ◌∙◌}
 use Prim.Native.Nat.{ℕ}
 use native.Mathlib.Nat.{zero-add}
 use lib.ListN.{length}
-use borrow.Author.Rules.{rules}
 use Rattle.refusal.specs.Judge.{checked_of, room_test}
-use Rattle.refusal.specs.laws.Judge.{stopped_room, onward_room, answered_room, room_shown, checks_alone}
+use Rattle.refusal.specs.laws.Judge.{stopped_room, onward_room, answered_room, checks_alone}
 use Rattle.action_set.specs.Sets.{size_of}
 use Rattle.action_set.specs.laws.Sets.{set_shown, members_size}
 use Rattle.action_set.specs.declared.Listed.TheVariants.{Count}

@@ -2,7 +2,6 @@
 -- Assumes nothing.
 use mathlib.Core.Path.{refl, ap}
 use mathlib.Core.List.{[]}
-use borrow.Author.Rules.{rules}
 use Rattle.refusal.specs.laws.Judge.{stopped_by_lem, onward_by, answered}
 use Rattle.action_set.specs.Sets.{member_tests}
 use Rattle.action_set.specs.laws.Sets.{member_shown}

@@ -1,7 +1,6 @@
 -- `action_set::bits::holds` meets its contract.
 -- Assumes nothing.
 use mathlib.Core.Path.{refl}
-use borrow.Author.Rules.{rules}
 use Rattle.laws.specs.Bits.{has}
 use Rattle.action_set.proofs.bits.holds.Goals as goal
 

@@ -1,13 +1,9 @@
 -- `action_set::bits::keep` meets its contract: the walk's laws at membership of the second set. The measure is what remains.
 -- Assumes nothing.
 use mathlib.Core.Path.{sym, ◌∙◌}
-use Prim.Native.Nat.{◌-◌, ◌<◌}
 use native.Mathlib.Omega.{arith}
-use borrow.Author.Tests.{not-true, not-false}
-use Rattle.laws.specs.Bits.{has}
 use Rattle.laws.specs.laws.Bits.{has_low}
-use Rattle.laws.specs.laws.Walk.{Walk, start, done, falls, stays, goes}
-use Rattle.action.specs.Known.{actions}
+use Rattle.laws.specs.laws.Walk.{done, stays, goes}
 use Rattle.action_set.proofs.bits.keep.Goals as goal
 
 pub overflow_sub-remaining : goal.overflow_sub-remaining

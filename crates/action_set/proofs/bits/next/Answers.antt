@@ -1,10 +1,6 @@
 -- `action_set::bits::next` meets its contract: the count of trailing zeros is the place of a member.
 -- Assumes nothing.
-use Prim.Native.Nat.{ℕ}
 use native.Mathlib.Omega.{arith}
-use mir.Syntax.{w8}
-use mir.Val.{Fits}
-use lib.Count.{count_trailing_zeros, trailing_le}
 use Rattle.laws.specs.laws.Bits.{trailing_member}
 use Rattle.action.specs.Known.{actions}
 use Rattle.action_set.proofs.bits.next.Goals as goal

@@ -1,11 +1,11 @@
 -- `action_set::bits::nth` meets its contract: what is still to be taken off what remains names the same member.
 -- Assumes nothing.
-use mathlib.Core.Path.{◌≡◌, refl, sym, ap, ◌∙◌}
-use Prim.Native.Nat.{suc, ◌-◌, ◌<◌}
+use mathlib.Core.Path.{◌≡◌, sym, ap, ◌∙◌}
+use Prim.Native.Nat.{suc, ◌-◌}
 use native.Mathlib.Omega.{arith}
 use Rattle.laws.specs.laws.Bits.{top_member}
 use Rattle.action.specs.Known.{actions}
-use Rattle.action_set.specs.Sets.{SetIn, size_of, nth_of}
+use Rattle.action_set.specs.Sets.{nth_of}
 use Rattle.action_set.specs.laws.Nth.{some_left, first_is_top, next_of_rest, size_of_rest}
 use Rattle.action_set.proofs.bits.nth.Goals as goal
 

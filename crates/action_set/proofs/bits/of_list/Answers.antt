@@ -1,14 +1,10 @@
 -- `action_set::bits::of_list` meets its contract: what is left of the list is still to be joined.
 -- Assumes nothing.
-use mathlib.Core.Path.{◌≡◌, sym, ap, ◌∙◌}
-use Prim.Native.Nat.{◌-◌}
-use native.Mathlib.Omega.{arith}
+use mathlib.Core.Path.{sym, ap, ◌∙◌}
 use lib.Pow.{pow_pos}
-use lib.ListN.{length, drop, drop_of_length-le}
-use Rattle.laws.specs.Lists.{elem}
+use lib.ListN.{drop_of_length-le}
 use Rattle.action.specs.Known.{actions}
 use Rattle.action.specs.laws.Known.{known_each}
-use Rattle.action_set.specs.Sets.{SetIn, set_of}
 use Rattle.action_set.specs.laws.Sets.{joined, joined_start, joined_turn, joined_end}
 use Rattle.action_set.proofs.bits.of_list.Goals as goal
 

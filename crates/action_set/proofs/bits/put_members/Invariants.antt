@@ -1,10 +1,8 @@
 -- `action_set::bits::put_members` meets its contract.
 -- Assumes nothing.
-use mathlib.Core.Path.{sym, ◌∙◌}
 use Prim.Native.Nat.{◌-◌}
-use native.Mathlib.Omega.{arith}
 use Rattle.action.specs.Known.{actions}
-use Rattle.action_set.proofs.Rising.{Rising, rising_start, rising_room, rising_with, rising_without, rising_end}
+use Rattle.action_set.proofs.Rising.{Rising}
 use Rattle.action_set.proofs.bits.put_members.Given as goal
 
 abbrev pub invariant-loop-m : goal.invariant-loop-m

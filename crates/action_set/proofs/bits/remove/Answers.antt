@@ -1,6 +1,5 @@
 -- `action_set::bits::remove` meets its contract.
 -- Assumes nothing.
-use lib.Bits.{and_le_l}
 use Rattle.laws.specs.laws.Bits.{less_bit}
 use Rattle.action.specs.Known.{actions}
 use Rattle.action_set.proofs.bits.remove.Goals as goal

@@ -2,7 +2,6 @@
 -- Assumes nothing.
 use Prim.Native.Nat.{◌<◌, ◌^◌}
 use native.Mathlib.Omega.{arith}
-use borrow.Author.Rules.{rules}
 use Rattle.laws.specs.laws.Bits.{top_place}
 use Rattle.action_set.proofs.bits.top.Goals as goal
 use Rattle.action_set.proofs.bits.top.Goals.{Start}

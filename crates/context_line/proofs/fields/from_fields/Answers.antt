@@ -3,7 +3,6 @@
 use mathlib.Core.Path.{◌≡◌, refl, sym, ap, ◌∙◌}
 use mathlib.Core.List.{List, []}
 use Prim.Native.Nat.{ℕ}
-use borrow.Author.Rules.{rules}
 use Rattle.refusal.specs.declared.Checked.TheVariants.{Passed}
 use Rattle.refusal.specs.Judge.{Test, checks_of}
 use Rattle.refusal.specs.laws.Judge.{checks_on_by, stopped_by_lem, onward_by, answered}
@@ -27,14 +26,18 @@ values c = listed c.args.numbers
 -- neither refused
 passed : (c : In_default-late) → Passed ≡ checks_of (number_tests (values c))
 passed c =
-    checks_on_by (early (goal.at.In_default-late c).After-check_early-early) (late (goal.at.In_default-late c).After-check_early-early) c.check_early-early.ensures c.in_default.is (sym c.in_default-late.is ∙ c.check_late-late.ensures)
+    let at_check_early = (goal.at.In_default-late c).After-check_early-early in
+    checks_on_by (early at_check_early) (late at_check_early) c.check_early-early.ensures c.in_default.is (sym c.in_default-late.is ∙ c.check_late-late.ensures)
 
 pub returns-in-Refused : goal.returns-in-Refused
-returns-in-Refused c = stopped_by_lem (early (goal.at.returns-in-Refused c).After-check_early-early) (late (goal.at.returns-in-Refused c).After-check_early-early) c.check_early-early.ensures c.in-Refused.is
+returns-in-Refused c =
+    let at_check_early = (goal.at.returns-in-Refused c).After-check_early-early in
+    stopped_by_lem (early at_check_early) (late at_check_early) c.check_early-early.ensures c.in-Refused.is
 
 pub returns-in-Refused-late : goal.returns-in-Refused-late
 returns-in-Refused-late c =
-    onward_by (early (goal.at.returns-in-Refused-late c).After-check_early-early) (late (goal.at.returns-in-Refused-late c).After-check_early-early) c.check_early-early.ensures c.in_default.is (stopped_by_lem (late (goal.at.returns-in-Refused-late c).After-check_early-early) [] c.check_late-late.ensures c.in-Refused-late.is)
+    let at_check_early = (goal.at.returns-in-Refused-late c).After-check_early-early in
+    onward_by (early at_check_early) (late at_check_early) c.check_early-early.ensures c.in_default.is (stopped_by_lem (late at_check_early) [] c.check_late-late.ensures c.in-Refused-late.is)
 
 pub context_of-requires : goal.context_of-requires
 context_of-requires c =
@@ -42,4 +45,6 @@ context_of-requires c =
     record { steps = t.steps; durability = durability_most_lem (values c) t }
 
 pub returns : goal.returns
-returns c = onward_by (number_tests (values (goal.at.returns c).In_default-late)) [] (passed (goal.at.returns c).In_default-late) refl (answered refl (ap Context c.context_of.ensures))
+returns c =
+    let at_in_default = (goal.at.returns c).In_default-late in
+    onward_by (number_tests (values at_in_default)) [] (passed at_in_default) refl (answered refl (ap Context c.context_of.ensures))

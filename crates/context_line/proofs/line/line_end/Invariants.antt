@@ -1,12 +1,8 @@
 -- `context_line::line::line_end` meets its contract: the place and the bytes in front of it make up the answer.
 -- Assumes nothing.
-use mathlib.Core.Path.{◌≡◌, ap}
-use mathlib.Core.Bool.{not}
+use mathlib.Core.Path.{◌≡◌}
 use Prim.Native.Nat.{◌+◌, ◌-◌, ◌≤◌}
-use native.Mathlib.Omega.{arith}
-use borrow.Author.Tests.{eq-eqb, ne_eqb}
 use lib.ListN.{length, drop}
-use Rattle.laws.specs.laws.Front.{front_on, front_stop, front_end}
 use Rattle.context_line.specs.Shape.{in_line, line_end}
 use Rattle.laws.specs.Lists.{front}
 use Rattle.context_line.proofs.line.line_end.Given as goal

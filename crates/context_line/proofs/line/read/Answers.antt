@@ -3,7 +3,6 @@
 use mathlib.Core.Path.{refl, subst}
 use mathlib.Core.List.{List}
 use Prim.Native.Nat.{ℕ}
-use borrow.Author.Rules.{rules}
 use borrow.Author.Tests.{not-true, not-false}
 use Rattle.refusal.specs.Judge.{Says}
 use Rattle.refusal.specs.laws.Judge.{stopped, onward}

@@ -3,12 +3,10 @@
 use mathlib.Core.Path.{◌≡◌, sym, ◌∙◌}
 use mathlib.Core.Bool.{true}
 use Prim.Native.Nat.{◌-◌, ◌≤◌}
-use native.Mathlib.Omega.{arith}
-use borrow.Author.Tests.{not-true, not-false}
 use lib.ListN.{length}
-use Rattle.context_line.specs.Shape.{wide, fields}
+use Rattle.context_line.specs.Shape.{wide}
 use Rattle.context_line.specs.laws.Shape.{run_within, run_here}
-use Rattle.context_line.proofs.Walk.{Walk, start, narrow, longer, whole, parted, onward}
+use Rattle.context_line.proofs.Walk.{start, narrow, longer, whole, parted, onward}
 use Rattle.context_line.proofs.line.read_numbers.Goals as goal
 use Rattle.context_line.proofs.line.read_numbers.Goals.{After-run_end-end, Else-not-is_wide}
 

@@ -1,14 +1,8 @@
 -- `context_line::line::read_numbers` meets its contract: each turn of the walk reads one number.
 -- Assumes nothing.
-use mathlib.Core.Path.{◌≡◌, sym, ◌∙◌}
-use mathlib.Core.Bool.{true}
-use Prim.Native.Nat.{◌-◌, ◌≤◌}
-use native.Mathlib.Omega.{arith}
-use borrow.Author.Tests.{not-true, not-false}
-use lib.ListN.{length}
-use Rattle.context_line.specs.Shape.{wide, fields}
-use Rattle.context_line.specs.laws.Shape.{run_within, run_here}
-use Rattle.context_line.proofs.Walk.{Walk, start, narrow, longer, whole, parted, onward}
+use Prim.Native.Nat.{◌-◌}
+use Rattle.context_line.specs.Shape.{fields}
+use Rattle.context_line.proofs.Walk.{Walk}
 use Rattle.context_line.proofs.line.read_numbers.Given as goal
 
 abbrev pub invariant-loop-values : goal.invariant-loop-values

@@ -1,12 +1,10 @@
 -- `context_line::runs::number` meets its contract: the digits that are left go on from the value so far.
 -- Assumes nothing.
-use mathlib.Core.Path.{◌≡◌, refl, sym, ◌∙◌}
+use mathlib.Core.Path.{◌≡◌}
 use Prim.Native.Nat.{◌-◌, ◌^◌, ◌≤◌, ◌<◌}
-use native.Mathlib.Nat.{pow-le-pow_right}
-use native.Mathlib.Omega.{arith}
 use lib.ListN.{length, drop}
 use Rattle.text.specs.Reading.{value_of}
-use Rattle.context_line.specs.laws.Runs.{value_after, value_on, value_end, value_below}
+use Rattle.context_line.specs.laws.Runs.{value_after}
 use Rattle.context_line.proofs.runs.number.Given as goal
 
 abbrev pub invariant-loop-i : goal.invariant-loop-i

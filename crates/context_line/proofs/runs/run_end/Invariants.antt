@@ -1,11 +1,9 @@
 -- `context_line::runs::run_end` meets its contract: the place and the digits from it on make up the answer.
 -- Assumes nothing.
-use mathlib.Core.Path.{◌≡◌, refl, sym, ◌∙◌}
+use mathlib.Core.Path.{◌≡◌}
 use Prim.Native.Nat.{◌+◌, ◌-◌, ◌≤◌}
-use native.Mathlib.Omega.{arith}
 use lib.ListN.{length, drop}
-use Rattle.laws.specs.laws.Front.{front_on, front_stop, front_end}
-use Rattle.context_line.specs.Shape.{digit, digits}
+use Rattle.context_line.specs.Shape.{digits}
 use Rattle.context_line.proofs.runs.run_end.Given as goal
 
 abbrev pub invariant-loop-i : goal.invariant-loop-i

@@ -1,7 +1,7 @@
 -- `craft_context::build::check_build` meets its contract: the tests in their order.
 -- Assumes nothing.
 use Rattle.std.proofs.Common.{◌≡◌, ℕ, drop, sym, refl, ◌∙◌, le-leb}
-use borrow.Author.Tests.{lt-leb, not-true, not-false}
+use borrow.Author.Tests.{lt-leb}
 use Rattle.refusal.specs.Judge.{checks_of}
 use Rattle.refusal.specs.laws.Judge.{check_holds, check_fails, check_none}
 use Rattle.craft_context.specs.inner.Build.{sheet_tests}

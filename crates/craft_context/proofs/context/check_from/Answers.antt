@@ -1,8 +1,8 @@
 -- `craft_context::context::check_from` meets its contract: the tests in their order; a field that has no limit passes.
 -- Assumes nothing.
-use Rattle.std.proofs.Common.{◌≡◌, ℕ, ◌≤◌, drop, sym, refl, ap, ◌∙◌, w8, SFits, rules, le-ltb, lt-ltb, le-leb}
+use Rattle.std.proofs.Common.{◌≡◌, ℕ, ◌≤◌, drop, sym, refl, ap, ◌∙◌, w8, SFits, le-ltb, lt-ltb, le-leb}
 use mir.ValLaws.{to_z-of_z}
-use borrow.Author.Tests.{lt-leb, not-true, not-false}
+use borrow.Author.Tests.{lt-leb}
 use Rattle.refusal.specs.Judge.{checks_of}
 use Rattle.refusal.specs.Limits.{limits_from}
 use Rattle.refusal.specs.laws.Judge.{check_holds, check_fails, check_none}

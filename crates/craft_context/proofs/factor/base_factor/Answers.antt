@@ -31,8 +31,7 @@ pub overflow_cast-result : goal.overflow_cast-result
 overflow_cast-result c = record { fits = lt_of_le_of_lt (whole c) (lit< tt) }
 
 pub returns : goal.returns
-returns c =
-    (
-      c.truncating_f32_to_u64.ensures ∙ truncated_alike 64 32 _ factor_most (lit< tt) (lit< tt) (small (goal.at.returns c).After-factor) ∙ ap (to_unsigned 32) c.factor.ensures,
-      whole c,
-    )
+returns c = (
+  c.truncating_f32_to_u64.ensures ∙ truncated_alike 64 32 _ factor_most (lit< tt) (lit< tt) (small (goal.at.returns c).After-factor) ∙ ap (to_unsigned 32) c.factor.ensures,
+  whole c,
+)

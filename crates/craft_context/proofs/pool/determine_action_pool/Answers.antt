@@ -1,12 +1,9 @@
 -- `craft_context::pool::determine_action_pool` meets its contract: the walk's laws at the pool's test. The measure is what remains.
 -- Assumes nothing.
-use Rattle.std.proofs.Common.{◌-◌, ◌<◌, sym, ◌∙◌, arith, lit<}
-use borrow.Author.Tests.{not-true, not-false}
+use Rattle.std.proofs.Common.{sym, ◌∙◌, arith, lit<}
 use Rattle.laws.specs.laws.Bits.{has_low}
-use Rattle.laws.specs.laws.Walk.{Walk, start, done, falls, stays, goes}
-use Rattle.action.specs.Known.{actions}
+use Rattle.laws.specs.laws.Walk.{done, stays, goes}
 use Rattle.action_set.specs.laws.Sets.{keep_all}
-use Rattle.craft_context.specs.Pool.{in_pool}
 use Rattle.craft_context.proofs.pool.determine_action_pool.Goals as goal
 
 pub overflow_sub-remaining : goal.overflow_sub-remaining

@@ -26,7 +26,8 @@ fits_most c = search rules
 pub returns : goal.returns
 unfolding display_of
 returns c =
-    let put-durability = put_as (washed 2 c.args.state.durability c.args.context.durability_max _ (fits_part (goal.at.returns c).Start) (fits_most (goal.at.returns c).Start)) c.put_signed_share-cp.ensures.0 in (
+    let at_start = (goal.at.returns c).Start in
+    let put-durability = put_as (washed 2 c.args.state.durability c.args.context.durability_max _ (fits_part at_start) (fits_most at_start)) c.put_signed_share-cp.ensures.0 in (
       then (then (then c.put_share-quality.ensures.0 c.put_share-durability.ensures.0) put-durability) c.put_share.ensures.0,
       omega (arith, c.put_share-quality.ensures.1, c.put_share-durability.ensures.1, c.put_signed_share-cp.ensures.1, c.put_share.ensures.1),
     )

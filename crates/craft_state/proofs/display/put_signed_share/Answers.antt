@@ -10,7 +10,6 @@ use mir.ValLaws.{to_z-of_z}
 use Rattle.text.specs.Decimal.{right_of, signed_of}
 use Rattle.text.specs.laws.Over.{then, put_as}
 use Rattle.craft_state.specs.Line.{signed_share_of}
-use borrow.Author.Rules.{rules}
 use Rattle.craft_state.proofs.display.put_signed_share.Goals as goal
 
 washed : (w : ℕ) (z : ℤ) → SFits w8 z → right_of w (signed_of (to_z w8 (of_z w8 z))) ≡ right_of w (signed_of z)

@@ -3,13 +3,9 @@
 use mathlib.Core.Path.{sym, ◌∙◌}
 use Prim.Native.Nat.{◌-◌, ◌<◌}
 use native.Mathlib.Omega.{arith}
-use borrow.Author.Tests.{not-true, not-false}
 use Rattle.laws.specs.laws.Bits.{has_low}
-use Rattle.laws.specs.laws.Walk.{Walk, start, done, falls, stays, goes}
-use Rattle.action.specs.Known.{actions}
-use Rattle.action.specs.Table.{attributes_of}
+use Rattle.laws.specs.laws.Walk.{done, falls, stays, goes}
 use Rattle.action_set.specs.Sets.{SetIn}
-use Rattle.moves.specs.inner.Sets.{amount_of, finishes_with}
 use Rattle.moves.proofs.amounts.keep_finishing.Goals as goal
 use Rattle.moves.proofs.amounts.keep_finishing.Goals.{After-finishes}
 

@@ -1,14 +1,8 @@
 -- `moves::amounts::keep_finishing` meets its contract.
 -- Assumes nothing.
-use mathlib.Core.Path.{sym, ◌∙◌}
-use Prim.Native.Nat.{◌-◌, ◌<◌}
-use native.Mathlib.Omega.{arith}
-use borrow.Author.Tests.{not-true, not-false}
-use Rattle.laws.specs.laws.Bits.{has_low}
-use Rattle.laws.specs.laws.Walk.{Walk, start, done, falls, stays, goes}
+use Rattle.laws.specs.laws.Walk.{Walk}
 use Rattle.action.specs.Known.{actions}
 use Rattle.action.specs.Table.{attributes_of}
-use Rattle.action_set.specs.Sets.{SetIn}
 use Rattle.moves.specs.inner.Sets.{amount_of, finishes_with}
 use Rattle.moves.proofs.amounts.keep_finishing.Given as goal
 

@@ -3,11 +3,8 @@
 use mathlib.Core.Path.{sym, ◌∙◌}
 use Prim.Native.Nat.{◌-◌, ◌<◌}
 use native.Mathlib.Omega.{arith}
-use borrow.Author.Tests.{not-true, not-false}
 use Rattle.laws.specs.laws.Bits.{has_low}
-use Rattle.laws.specs.laws.Walk.{Walk, start, done, falls, stays, goes}
-use Rattle.action.specs.Known.{actions}
-use Rattle.action.specs.Price.{affordable}
+use Rattle.laws.specs.laws.Walk.{done, falls, stays, goes}
 use Rattle.action.specs.Table.{attributes_of}
 use Rattle.action.specs.laws.Bounds.{dearest_most}
 use Rattle.action_set.specs.Sets.{SetIn}

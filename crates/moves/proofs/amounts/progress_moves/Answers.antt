@@ -1,6 +1,5 @@
 -- `moves::amounts::progress_moves` meets its contract.
 -- Assumes nothing.
-use borrow.Author.Rules.{rules}
 use Rattle.laws.specs.Bits.{collect}
 use Rattle.action.specs.Table.{action_of, attributes_of}
 use Rattle.action.specs.laws.Bounds.{rows_bounded}
@@ -9,9 +8,8 @@ use Rattle.moves.proofs.amounts.progress_moves.Goals as goal
 
 pub returns : goal.returns
 unfolding collect action_of
-returns c =
-    (
-      simp (c.unless.ensures.0, c.unless-work.ensures.0, c.unless-set.ensures.0, c.requires.1)
-          (progress_leaves c.args.context c.args.state attributes_of rows_bounded c.args.set),
-      c.unless.ensures.1,
-    )
+returns c = (
+  simp (c.unless.ensures.0, c.unless-work.ensures.0, c.unless-set.ensures.0, c.requires.1)
+      (progress_leaves c.args.context c.args.state attributes_of rows_bounded c.args.set),
+  c.unless.ensures.1,
+)

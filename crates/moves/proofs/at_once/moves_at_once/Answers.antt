@@ -2,7 +2,6 @@
 -- Assumes nothing.
 use mathlib.Core.Path.{◌≡◌, sym, ◌∙◌}
 use lib.Dec.{lit<}
-use borrow.Author.Rules.{rules}
 use Rattle.laws.specs.Bits.{collect}
 use Rattle.action.specs.Table.{action_of, attributes_of}
 use Rattle.action.specs.laws.Bounds.{rows_bounded}

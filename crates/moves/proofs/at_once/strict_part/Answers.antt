@@ -1,7 +1,6 @@
 -- `moves::at_once::strict_part` meets its contract.
 -- Assumes nothing.
 use mathlib.Core.Path.{sym, ◌∙◌}
-use borrow.Author.Rules.{rules}
 use Rattle.laws.specs.Bits.{collect}
 use Rattle.action.specs.Table.{action_of, attributes_of}
 use Rattle.moves.specs.laws.AtOnce.{eye_leaves, beyond_leaves}

@@ -1,7 +1,6 @@
 -- `moves::candidate::allowed` meets its contract.
 -- Assumes nothing.
 use mathlib.Core.Path.{sym, ◌∙◌}
-use borrow.Author.Rules.{rules}
 use Rattle.moves.specs.Moves.{allowed_of}
 use Rattle.moves.proofs.candidate.allowed.Goals as goal
 

@@ -1,8 +1,6 @@
 -- `moves::candidate::allows` meets its contract.
 -- Assumes nothing.
-use mathlib.Core.Path.{ap, ◌∙◌}
 use Rattle.action.specs.laws.Bounds.{rows_bounded}
-use Rattle.moves.specs.Moves.{allowed_of}
 use Rattle.moves.proofs.candidate.allows.Goals as goal
 
 pub allowed-requires : goal.allowed-requires

@@ -3,12 +3,9 @@
 use mathlib.Core.Path.{sym, ◌∙◌}
 use Prim.Native.Nat.{◌-◌, ◌<◌}
 use native.Mathlib.Omega.{arith}
-use borrow.Author.Tests.{not-true, not-false}
 use Rattle.laws.specs.laws.Bits.{has_low}
-use Rattle.laws.specs.laws.Walk.{Walk, start, done, falls, stays, goes}
-use Rattle.action.specs.Known.{actions}
+use Rattle.laws.specs.laws.Walk.{done, falls, stays, goes}
 use Rattle.action_set.specs.Sets.{SetIn}
-use Rattle.moves.specs.Moves.{allows_of}
 use Rattle.moves.proofs.legal.keep_allowed.Goals as goal
 use Rattle.moves.proofs.legal.keep_allowed.Goals.{After-allows}
 

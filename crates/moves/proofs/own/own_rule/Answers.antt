@@ -3,7 +3,6 @@
 use mathlib.Core.Path.{◌≡◌}
 use mathlib.Core.Logic.{⊎_elim, inl, inr}
 use borrow.Author.Tests.{ne_eqb}
-use borrow.Author.Rules.{rules}
 use Rattle.action.specs.Actions as A
 use Rattle.moves.specs.Rules.{own_rule}
 use Rattle.moves.proofs.own.own_rule.Goals as goal

@@ -1,7 +1,6 @@
 -- `moves::sets::kind_moves` meets its contract.
 -- Assumes nothing.
 use mathlib.Core.Path.{◌≡◌, ◌∙◌}
-use borrow.Author.Rules.{rules}
 use Rattle.laws.specs.Bits.{collect}
 use Rattle.action.specs.Table.{action_of, attributes_of}
 use Rattle.action.specs.laws.Bounds.{rows_bounded}

@@ -1,7 +1,6 @@
 -- `moves::sets::own_moves` meets its contract.
 -- Assumes nothing.
 use mathlib.Core.Path.{◌≡◌, ◌∙◌}
-use borrow.Author.Rules.{rules}
 use Rattle.laws.specs.Bits.{collect}
 use Rattle.action.specs.Table.{attributes_of}
 use Rattle.moves.specs.laws.Leaves.{leaves}

@@ -1,7 +1,6 @@
 -- `moves::sets::unless` meets its contract.
 -- Assumes nothing.
 use native.Mathlib.Omega.{arith}
-use lib.Bits.{and_le_l}
 use Rattle.moves.specs.laws.Leaves.{unless_held, unless_broken}
 use Rattle.moves.proofs.sets.unless.Goals as goal
 

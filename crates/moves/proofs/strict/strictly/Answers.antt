@@ -1,7 +1,6 @@
 -- `moves::strict::strictly` meets its contract.
 -- Assumes nothing.
 use mathlib.Core.Path.{sym, ◌∙◌}
-use borrow.Author.Rules.{rules}
 use Rattle.moves.specs.Moves.{strictly_of}
 use Rattle.moves.proofs.strict.strictly.Goals as goal
 

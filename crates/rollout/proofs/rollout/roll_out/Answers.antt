@@ -1,11 +1,10 @@
 -- `rollout::rollout::roll_out` meets its contract.
 -- Assumes nothing.
-use mathlib.Core.Path.{◌≡◌, refl, sym, ap, ◌∙◌}
+use mathlib.Core.Path.{◌≡◌, sym, ap, ◌∙◌}
 use mathlib.Core.Bool.{true}
 use mathlib.Core.List.{List}
-use Prim.Native.Nat.{ℕ, ◌+◌, ◌-◌, ◌≤◌, ◌<◌}
+use Prim.Native.Nat.{ℕ, ◌+◌, ◌<◌}
 use native.Mathlib.Omega.{arith}
-use borrow.Author.Rules.{rules}
 use lib.ListN.{length, drop}
 use Rattle.laws.specs.Bits.{has}
 use Rattle.action.specs.Known.{actions}
@@ -118,8 +117,7 @@ loop-moves-preserved c =
 -- ---- where it ends
 pub returns-then-moves-eq0 : goal.returns-then-moves-eq0
 returns-then-moves-eq0 c =
-    let l = c.loop-moves in
-    (
+    let l = c.loop-moves in (
       ap (λ (r : CraftResult). R.Ended r l.at) c.judge_single.ensures.0
           ∙ roll_over c.args.context l.state l.moves l.at c.if-moves-eq0.true (drop l.at c.args.draws.now)
           ∙ l.invariant.0,
@@ -128,8 +126,7 @@ returns-then-moves-eq0 c =
 
 pub returns-in-Refused : goal.returns-in-Refused
 returns-in-Refused c =
-    let l = c.loop-moves in
-    (
+    let l = c.loop-moves in (
       roll_refused c.args.context l.state l.moves l.at c.if-moves-eq0.false (drop l.at c.args.draws.now) (drawn (goal.at.returns-in-Refused c).After-draw-drawn ∙ c.in-Refused.is)
           ∙ l.invariant.0,
       tt,

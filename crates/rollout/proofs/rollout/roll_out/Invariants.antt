@@ -1,32 +1,10 @@
 -- `rollout::rollout::roll_out` meets its contract.
 -- Assumes nothing.
-use mathlib.Core.Path.{◌≡◌, refl, sym, ap, ◌∙◌}
-use mathlib.Core.Bool.{true}
-use mathlib.Core.List.{List}
-use Prim.Native.Nat.{ℕ, ◌+◌, ◌-◌, ◌≤◌, ◌<◌}
-use native.Mathlib.Omega.{arith}
-use borrow.Author.Rules.{rules}
+use mathlib.Core.Path.{◌≡◌}
+use Prim.Native.Nat.{◌-◌, ◌≤◌}
 use lib.ListN.{length, drop}
-use Rattle.laws.specs.Bits.{has}
-use Rattle.action.specs.Known.{actions}
-use Rattle.action.specs.Table.{attributes_of}
-use Rattle.action.specs.laws.Bounds.{rows_bounded}
-use Rattle.craft_context.specs.declared.context.CraftContext.{CraftContext}
-use Rattle.craft_state.specs.declared.state.CraftState.{CraftState}
-use Rattle.craft_state.specs.Inside.{CraftIn}
-use Rattle.step.specs.Step.{executed_of, execute_of}
-use Rattle.moves.specs.Modes.{plain, strict}
-use Rattle.moves.specs.Moves.{moves_of}
-use Rattle.moves.specs.laws.Moves.{strict_part, legal_known, legal_playable, legal_keeps}
-use Rattle.score.specs.declared.result.CraftResult.{CraftResult}
-use Rattle.rollout.specs.declared.draws.Drawn.TheVariants as Drawn
-use Rattle.rollout.specs.declared.rollout.Rolled.{Rolled}
-use Rattle.rollout.specs.declared.rollout.Rolled.TheVariants as R
-use Rattle.rollout.specs.Draws.{drawn_of}
-use Rattle.rollout.specs.Rollout.{strict_moves, rolled_from}
+use Rattle.rollout.specs.Rollout.{rolled_from}
 use Rattle.rollout.specs.inner.Movable.{Movable}
-use Rattle.rollout.specs.laws.Draws.{drawn_there, drawn_is}
-use Rattle.rollout.specs.laws.Rollout.{roll_over, roll_refused, roll_sampled}
 use Rattle.rollout.proofs.rollout.roll_out.Given as goal
 
 -- the rest of the draws gives the whole rollout; the state is inside the limits, and the moves are some of its own

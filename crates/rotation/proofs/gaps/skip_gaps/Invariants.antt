@@ -1,11 +1,9 @@
 -- `rotation::gaps::skip_gaps` meets its contract: a scan over gaps.
 -- Assumes nothing.
-use mathlib.Core.Path.{sym, ◌∙◌}
 use Prim.Native.Nat.{◌-◌}
-use native.Mathlib.Omega.{arith}
 use lib.ListN.{length}
 use Rattle.rotation.specs.Gaps.{gap}
-use Rattle.rotation.proofs.Scan.{Scanned, scan_starts, scan_on, scan_stops, scan_ends}
+use Rattle.rotation.proofs.Scan.{Scanned}
 use Rattle.rotation.proofs.gaps.skip_gaps.Given as goal
 
 abbrev pub invariant-loop-i : goal.invariant-loop-i

@@ -1,12 +1,9 @@
 -- `rotation::gaps::skip_letters` meets its contract: a scan over letters.
 -- Assumes nothing.
-use mathlib.Core.Path.{sym, ap, ◌∙◌}
-use mathlib.Core.Bool.{not}
 use Prim.Native.Nat.{◌-◌}
-use native.Mathlib.Omega.{arith}
 use lib.ListN.{length}
 use Rattle.rotation.specs.Gaps.{letter}
-use Rattle.rotation.proofs.Scan.{Scanned, scan_starts, scan_on, scan_stops, scan_ends}
+use Rattle.rotation.proofs.Scan.{Scanned}
 use Rattle.rotation.proofs.gaps.skip_letters.Given as goal
 
 abbrev pub invariant-loop-i : goal.invariant-loop-i

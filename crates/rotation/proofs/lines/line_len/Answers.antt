@@ -1,7 +1,6 @@
 -- `rotation::lines::line_len` meets its contract.
 -- Assumes nothing.
 use native.Mathlib.Omega.{arith}
-use borrow.Author.Rules.{rules}
 use Rattle.rotation.specs.laws.Lines.{line_short}
 use Rattle.rotation.proofs.lines.line_len.Goals as goal
 

@@ -1,13 +1,10 @@
 -- `rotation::lines::measure` meets its contract: what is passed and what the rest has are what the whole list has.
 -- Assumes nothing.
-use mathlib.Core.Path.{◌≡◌, ap}
+use mathlib.Core.Path.{◌≡◌}
 use Prim.Native.Nat.{◌+◌, ◌*◌, ◌-◌, ◌≤◌}
-use native.Mathlib.Omega.{arith}
 use lib.ListN.{length, drop}
-use Rattle.action.specs.laws.Known.{known_each}
 use Rattle.rotation.specs.Lines.{list_text_of}
 use Rattle.rotation.specs.inner.Lines.{name_line_most}
-use Rattle.rotation.specs.laws.Lines.{lines_length, lines_end}
 use Rattle.rotation.proofs.lines.measure.Given as goal
 
 abbrev pub invariant-loop-i : goal.invariant-loop-i

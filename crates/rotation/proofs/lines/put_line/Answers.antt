@@ -1,7 +1,6 @@
 -- `rotation::lines::put_line` meets its contract.
 -- Assumes nothing.
 use native.Mathlib.Omega.{arith}
-use borrow.Author.Rules.{rules}
 use Rattle.rotation.specs.laws.Lines.{line_length, line_put}
 use Rattle.rotation.proofs.lines.put_line.Goals as goal
 

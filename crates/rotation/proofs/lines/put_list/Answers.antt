@@ -1,13 +1,11 @@
 -- `rotation::lines::put_list` meets its contract: the rest of the text, stored where the next line goes, is the whole text stored at the start.
 -- Assumes nothing.
-use mathlib.Core.Path.{◌≡◌, refl, sym, ap, ◌∙◌}
-use Prim.Native.Nat.{◌+◌, ◌-◌, ◌≤◌}
+use mathlib.Core.Path.{sym, ap, ◌∙◌}
 use native.Mathlib.Omega.{arith}
-use lib.ListN.{length, drop}
+use lib.ListN.{length}
 use Rattle.text.specs.Over.{over}
 use Rattle.text.specs.laws.Over.{over_none}
 use Rattle.action.specs.laws.Known.{known_each}
-use Rattle.rotation.specs.Lines.{list_text_of}
 use Rattle.rotation.specs.laws.Lines.{lines_length, lines_turn, lines_end}
 use Rattle.rotation.proofs.lines.put_list.Goals as goal
 

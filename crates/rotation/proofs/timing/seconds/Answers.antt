@@ -1,12 +1,11 @@
 -- `rotation::timing::seconds` meets its contract: what is summed are the waits of the actions passed, and the walk ends before the last.
 -- Assumes nothing.
-use mathlib.Core.Path.{◌≡◌, ap, sym}
+use mathlib.Core.Path.{ap, sym}
 use mathlib.Core.List.{List}
 use Prim.Native.Nat.{ℕ, ◌+◌, ◌-◌, ◌≤◌}
 use native.Mathlib.Omega.{arith}
-use lib.ListN.{length, take}
+use lib.ListN.{length}
 use Rattle.action.specs.Wait.{wait_of}
-use Rattle.rotation.specs.Seconds.{waits_of}
 use Rattle.rotation.specs.laws.Seconds.{waits_none, waits_on, waits_end, waits_most}
 use Rattle.rotation.proofs.timing.seconds.Goals as goal
 

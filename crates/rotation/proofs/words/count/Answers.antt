@@ -1,12 +1,9 @@
 -- `rotation::words::count` meets its contract.
 -- Assumes nothing.
-use Prim.Native.Nat.{◌-◌}
 use native.Mathlib.Omega.{arith}
-use lib.ListN.{length}
-use borrow.Author.Rules.{rules}
 use Rattle.rotation.specs.laws.Words.{actions_most}
 use Rattle.rotation.specs.laws.Next.{Turn, next_is}
-use Rattle.rotation.specs.laws.Walk.{Counting, counting_starts, counting_on, counted_all, counted_unknown}
+use Rattle.rotation.specs.laws.Walk.{counting_starts, counting_on, counted_all, counted_unknown}
 use Rattle.rotation.proofs.words.count.Goals as goal
 use Rattle.rotation.proofs.words.count.Goals.{In-Action}
 

@@ -1,8 +1,6 @@
 -- `rotation::words::next_word` meets its contract.
 -- Assumes nothing.
 use mathlib.Core.Path.{sym, ◌∙◌}
-use native.Mathlib.Omega.{arith}
-use borrow.Author.Rules.{rules}
 use Rattle.rotation.specs.laws.Next.{next_end, end_within, next_found}
 use Rattle.rotation.proofs.words.next_word.Goals as goal
 

@@ -1,11 +1,8 @@
 -- `rotation::words::put_words` meets its contract.
 -- Assumes nothing.
-use Prim.Native.Nat.{◌-◌}
 use native.Mathlib.Omega.{arith}
-use lib.ListN.{length}
-use borrow.Author.Rules.{rules}
 use Rattle.rotation.specs.laws.Next.{Turn, next_is}
-use Rattle.rotation.specs.laws.Walk.{Putting, putting_starts, putting_room, putting_on, put_all, put_known}
+use Rattle.rotation.specs.laws.Walk.{putting_starts, putting_room, putting_on, put_all, put_known}
 use Rattle.rotation.proofs.words.put_words.Goals as goal
 use Rattle.rotation.proofs.words.put_words.Goals.{In-Action}
 

@@ -1,6 +1,6 @@
 -- `score::result::judge` meets its contract: each way out answers what its test gives, where all tests before it failed.
 -- Assumes nothing.
-use Rattle.std.proofs.Common.{◌≡◌, ℤ, pos, sym, ap, ◌∙◌, w8, to_z, of_z, rules, eq-eqb, ne_eqb, le-leb}
+use Rattle.std.proofs.Common.{◌≡◌, ℤ, pos, sym, ap, ◌∙◌, w8, to_z, of_z, eq-eqb, ne_eqb, le-leb}
 use lib.Signed.{le_z}
 use borrow.Author.Tests.{lt-leb}
 use Rattle.craft_state.specs.laws.Inside.{durability_read}

@@ -1,6 +1,5 @@
 -- `score::scoring::fewer_steps` meets its contract.
 -- Assumes nothing.
-use Rattle.std.proofs.Common.{rules}
 use Rattle.laws.specs.laws.Floats.{one_bits}
 use Rattle.score.proofs.scoring.fewer_steps.Goals as goal
 

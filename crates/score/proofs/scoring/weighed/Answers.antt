@@ -17,12 +17,13 @@ most c = search rules
 pub returns : goal.returns
 unfolding weighed_of
 returns c =
+    let at_start = (goal.at.returns c).Start in
     simp (
       fifth_bits,
       sixty_five_bits,
       twentieth_bits,
-      to_z-of_z w8 _ (level (goal.at.returns c).Start),
-      to_z-of_z w8 _ (most (goal.at.returns c).Start),
+      to_z-of_z w8 _ (level at_start),
+      to_z-of_z w8 _ (most at_start),
       c.fewer_steps-fewer.ensures,
       c.whole_part-cp.ensures,
       c.part-durability.ensures,

@@ -1,9 +1,7 @@
 -- `search::options::are_logs` meets its contract: number by number, up to one that is no logarithm.
 -- Assumes nothing.
-use Rattle.std.proofs.Common.{◌≡◌, ℕ, ◌-◌, ◌≤◌, true, length, sym, ap, ◌∙◌, le_antisymm, arith, lit≤}
-use borrow.Author.Tests.{not-true, not-false}
-use Rattle.search.specs.Options.{iterations_most, logs_to}
-use Rattle.search.specs.laws.Options.{logs_start, logs_next, logs_short, logs_none, logs_all}
+use Rattle.std.proofs.Common.{sym, ◌∙◌, arith, lit≤}
+use Rattle.search.specs.laws.Options.{logs_start, logs_next, logs_none}
 use Rattle.search.proofs.options.are_logs.Goals as goal
 
 pub loop-v-init : goal.loop-v-init

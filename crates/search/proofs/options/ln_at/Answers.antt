@@ -1,6 +1,5 @@
 -- `search::options::ln_at` meets its contract: the fraction of a count can be dropped.
 -- Assumes nothing.
-use Rattle.std.proofs.Common.{arith}
 use Rattle.search.specs.laws.Options.{count_cuts}
 use Rattle.search.proofs.options.ln_at.Goals as goal
 

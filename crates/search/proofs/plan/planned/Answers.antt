@@ -1,6 +1,6 @@
 -- `search::plan::planned` meets its contract: by what the rollout came to.
 -- Assumes nothing.
-use Rattle.std.proofs.Common.{◌≡◌, ℕ, ◌-◌, ◌≤◌, List, drop, sym, ap, ◌∙◌, subst, arith, rules}
+use Rattle.std.proofs.Common.{◌≡◌, ℕ, ◌-◌, ◌≤◌, List, drop, sym, ap, ◌∙◌}
 use lib.Ieee.{Float}
 use Rattle.refusal.specs.declared.Refusal.{Refusal}
 use Rattle.craft_context.specs.declared.context.CraftContext.{CraftContext}
@@ -9,7 +9,6 @@ use Rattle.score.specs.declared.result.CraftResult.{CraftResult}
 use Rattle.rollout.specs.declared.rollout.Rolled.{Rolled}
 use Rattle.rollout.specs.declared.rollout.Rolled.TheVariants.{Ended, Refused}
 use Rattle.rollout.specs.Rollout.{rolled_from}
-use Rattle.rollout.specs.inner.Ends.{EndsWithin}
 use Rattle.rollout.specs.laws.RolledSampled.{rolled}
 use Rattle.search.specs.Iterate.{is_worth, stored_of}
 use Rattle.search.specs.inner.Ready.{refused_plan, plan_room, plan_by, plan_of}

@@ -1,6 +1,6 @@
 -- `search::plan::score_in` meets its contract.
 -- Assumes nothing.
-use Rattle.std.proofs.Common.{sym, ap, rules}
+use Rattle.std.proofs.Common.{sym, ap}
 use lib.Ieee.{of_int, of_bits}
 use Rattle.search.specs.Iterate.{score_in}
 use Rattle.search.proofs.plan.score_in.Goals as goal

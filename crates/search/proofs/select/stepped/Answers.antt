@@ -1,8 +1,6 @@
 -- `search::select::stepped` meets its contract.
 -- Assumes nothing.
-use Rattle.std.proofs.Common.{ap, ◌∙◌}
 use Rattle.action.specs.laws.Bounds.{rows_bounded}
-use Rattle.step.specs.Step.{executed_of}
 use Rattle.search.proofs.select.stepped.Goals as goal
 
 pub execute_single-requires : goal.execute_single-requires

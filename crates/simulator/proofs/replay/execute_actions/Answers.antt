@@ -2,11 +2,9 @@
 -- Assumes nothing.
 use mathlib.Core.Path.{◌≡◌, sym, ap, subst, ◌∙◌}
 use mathlib.Core.Bool.{Bool, false}
-use mathlib.Core.Logic.{⊎_elim}
-use Prim.Native.Nat.{◌+◌, ◌≤◌, ◌<◌, ◌-◌}
+use Prim.Native.Nat.{◌+◌, ◌<◌}
 use native.Mathlib.Omega.{arith}
-use lib.ListN.{length, drop, get_or}
-use borrow.Author.Tests.{not-true, not-false}
+use lib.ListN.{drop, get_or}
 use Rattle.action.specs.Bounds.{RowBounds}
 use Rattle.action.specs.Known.{actions}
 use Rattle.action.specs.Table.{attributes_of}
@@ -63,22 +61,22 @@ stops c =
     let broken = broken_with attributes_of c.args.context c.args.mode l.state l.i in
     let at_end = sym c.has_ended.ensures in
     elim c.if-has_ended.branch [
-      then-has_ended w ↦ (
+      | then-has_ended w ↦ (
         sym l.invariant.1 ∙ replay_ended attributes_of _ _ l.state l.i _ (at_end ∙ w.if-has_ended.true) ∙ ap broken (sym (w.result-is ∙ w.judge-result.ensures.0)),
         subst ScoreIsNumber (sym w.result-is) w.judge-result.ensures.1,
       )
-    | else-has_ended+then-i-list w ↦ (
+      | else-has_ended+then-i-list w ↦ (
         sym l.invariant.1 ∙ place_end attributes_of _ _ l.state c.args.list.now l.i l.invariant.0 w.if-i-list.true (at_end ∙ w.if-has_ended.false) ∙ ap broken (sym w.result-is),
         subst ScoreIsNumber (sym w.result-is) tt,
       )
-    | else-has_ended+else-i-list+then-not-legal w ↦
-      let row = w.attributes_of-row.ensures in
-      let fails = sym (ap (passed_of _ _ _ _) row) ∙ sym w.passes-legal.ensures ∙ w.if-not-legal.true in (
-        sym l.invariant.1
-        ∙ place_slip attributes_of _ _ l.state c.args.list.now l.i w.if-i-list.false (known_each _ c.requires.1 _ w.if-i-list.false) (at_end ∙ w.if-has_ended.false) fails
-        ∙ ap broken (sym w.result-is),
-        subst ScoreIsNumber (sym w.result-is) tt,
-      )
+      | else-has_ended+else-i-list+then-not-legal w ↦
+          let row = w.attributes_of-row.ensures in
+          let fails = sym (ap (passed_of _ _ _ _) row) ∙ sym w.passes-legal.ensures ∙ w.if-not-legal.true in (
+            sym l.invariant.1
+                ∙ place_slip attributes_of _ _ l.state c.args.list.now l.i w.if-i-list.false (known_each _ c.requires.1 _ w.if-i-list.false) (at_end ∙ w.if-has_ended.false) fails
+                ∙ ap broken (sym w.result-is),
+            subst ScoreIsNumber (sym w.result-is) tt,
+          )
     ]
 
 pub loop-n-init : goal.loop-n-init
@@ -90,20 +88,23 @@ passes-legal-requires c = (c.loop-n.invariant.2, known c, bounded c)
 
 pub play-state-requires : goal.play-state-requires
 play-state-requires c =
+    let at_attributes_of = (goal.at.play-state-requires c).After-attributes_of-row in
     let inside = c.loop-n.invariant.2 in (
       λ t.
           subst (Playable _ _ _) (sym c.attributes_of-row.ensures)
-          (legal_playable attributes_of rows_bounded _ _ _ _ inside (known (goal.at.play-state-requires c).After-attributes_of-row) (legal_is attributes_of _ _ _ _ (known (goal.at.play-state-requires c).After-attributes_of-row) (going (goal.at.play-state-requires c).Else-has_ended) (tested (goal.at.play-state-requires c).After-passes-legal t))),
-      bounded (goal.at.play-state-requires c).After-attributes_of-row,
+          (legal_playable attributes_of rows_bounded _ _ _ _ inside (known at_attributes_of) (legal_is attributes_of _ _ _ _ (known at_attributes_of) (going (goal.at.play-state-requires c).Else-has_ended) (tested (goal.at.play-state-requires c).After-passes-legal t))),
+      bounded at_attributes_of,
     )
 
 pub loop-n-preserved : goal.loop-n-preserved
 loop-n-preserved c =
+    let at_attributes_of = (goal.at.loop-n-preserved c).After-attributes_of-row in
+    let at_has_ended = (goal.at.loop-n-preserved c).Else-has_ended in
     let l = c.loop-n in
     let passed = tested (goal.at.loop-n-preserved c).After-passes-legal c.if-not-legal.false in
-    let on = place_on attributes_of _ _ l.state c.args.list.now l.i c.if-i-list.false (known (goal.at.loop-n-preserved c).After-attributes_of-row) (going (goal.at.loop-n-preserved c).Else-has_ended) passed in
-    let legal = legal_is attributes_of _ _ l.state _ (known (goal.at.loop-n-preserved c).After-attributes_of-row) (going (goal.at.loop-n-preserved c).Else-has_ended) passed in
-    let inside = legal_keeps attributes_of rows_bounded _ l.state _ _ l.invariant.2 (known (goal.at.loop-n-preserved c).After-attributes_of-row) legal in
+    let on = place_on attributes_of _ _ l.state c.args.list.now l.i c.if-i-list.false (known at_attributes_of) (going at_has_ended) passed in
+    let legal = legal_is attributes_of _ _ l.state _ (known at_attributes_of) (going at_has_ended) passed in
+    let inside = legal_keeps attributes_of rows_bounded _ l.state _ _ l.invariant.2 (known at_attributes_of) legal in
     let next = replay_from attributes_of c.args.context c.args.mode in (
       omega (arith, c.if-i-list.false),
       ap (λ (x : CraftState). next x (l.i + 1) (drop (l.i + 1) c.args.list.now)) (moved c) ∙ sym on ∙ l.invariant.1,

@@ -1,7 +1,6 @@
 -- `step::combos::paid` meets its contract.
 -- Assumes nothing.
 use native.Mathlib.Nat.{sub-zero}
-use borrow.Author.Rules.{rules}
 use Rattle.step.specs.Step.{paid_of}
 use Rattle.step.proofs.combos.paid.Goals as goal
 

@@ -1,6 +1,5 @@
 -- `step::progress::begun` meets its contract.
 -- Assumes nothing.
-use borrow.Author.Rules.{rules}
 use borrow.Author.Tests.{eq-eqb, ne_eqb}
 use Rattle.craft_state.specs.Start.{renewed_of}
 use Rattle.step.specs.Step.{begun_of}

@@ -1,6 +1,5 @@
 -- `step::progress::progressed` meets its contract.
 -- Assumes nothing.
-use borrow.Author.Rules.{rules}
 use Rattle.step.specs.Step.{progressed_of}
 use Rattle.step.proofs.progress.progressed.Goals as goal
 

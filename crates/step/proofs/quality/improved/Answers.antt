@@ -1,6 +1,5 @@
 -- `step::quality::improved` meets its contract.
 -- Assumes nothing.
-use borrow.Author.Rules.{rules}
 use Rattle.step.specs.Step.{improved_of}
 use Rattle.step.proofs.quality.improved.Goals as goal
 

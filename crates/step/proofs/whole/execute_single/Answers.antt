@@ -1,6 +1,5 @@
 -- `step::whole::execute_single` meets its contract.
 -- Assumes nothing.
-use borrow.Author.Rules.{rules}
 use Rattle.step.specs.Step.{executed_of}
 use Rattle.step.specs.laws.Step.{progressing, touching, improved_durability, worn_durability, refreshed_payable, timed_durability}
 use Rattle.step.proofs.whole.execute_single.Goals as goal

@@ -1,11 +1,8 @@
 -- `append::put` meets its contract: after j turns the first j bytes of the text are stored.
 -- Assumes nothing.
-use mathlib.Core.Path.{◌≡◌, refl, sym, ◌∙◌}
-use Prim.Native.Nat.{◌+◌, ◌-◌, ◌≤◌}
+use mathlib.Core.Path.{◌≡◌, sym, ◌∙◌}
 use native.Mathlib.Omega.{arith}
-use native.Mathlib.Nat.{add-zero}
-use lib.ListN.{length, drop, length-set}
-use Rattle.text.specs.Over.{over}
+use lib.ListN.{length, length-set}
 use Rattle.text.specs.laws.Over.{over_next, over_end}
 use Rattle.text.proofs.append.put.Goals as goal
 

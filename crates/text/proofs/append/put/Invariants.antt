@@ -1,12 +1,9 @@
 -- `append::put` meets its contract: after j turns the first j bytes of the text are stored.
 -- Assumes nothing.
-use mathlib.Core.Path.{◌≡◌, refl, sym, ◌∙◌}
+use mathlib.Core.Path.{◌≡◌}
 use Prim.Native.Nat.{◌+◌, ◌-◌, ◌≤◌}
-use native.Mathlib.Omega.{arith}
-use native.Mathlib.Nat.{add-zero}
-use lib.ListN.{length, drop, length-set}
+use lib.ListN.{length, drop}
 use Rattle.text.specs.Over.{over}
-use Rattle.text.specs.laws.Over.{over_next, over_end}
 use Rattle.text.proofs.append.put.Given as goal
 
 abbrev pub invariant-loop-j : goal.invariant-loop-j

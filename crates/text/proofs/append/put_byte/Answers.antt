@@ -1,7 +1,6 @@
 -- `append::put_byte` meets its contract.
 -- Assumes nothing.
 use Rattle.text.specs.laws.Over.{put_one}
-use borrow.Author.Rules.{rules}
 use Rattle.text.proofs.append.put_byte.Goals as goal
 
 pub returns : goal.returns

@@ -1,7 +1,6 @@
 -- `decimal::put_right` meets its contract.
 -- Assumes nothing.
 use native.Mathlib.Omega.{arith}
-use borrow.Author.Rules.{rules}
 use Rattle.text.specs.laws.Over.{put_as}
 use Rattle.text.proofs.SpelledLaws.{spelled_count, spelled_right}
 use Rattle.text.specs.laws.Lengths.{right_length}

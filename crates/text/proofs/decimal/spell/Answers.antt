@@ -1,11 +1,10 @@
 -- `decimal::spell` meets its contract: each turn spells the last digit of what is left.
 -- Assumes nothing.
-use mathlib.Core.Path.{◌≡◌, refl}
-use Prim.Native.Nat.{◌^◌, ◌≤◌, ◌<◌}
+use mathlib.Core.Path.{refl}
 use native.Mathlib.Omega.{arith}
 use borrow.Author.Tests.{lt-ltb, le-ltb}
-use lib.ListN.{length, length-set}
-use Rattle.text.proofs.Spelling.{Spelling, unspelled, turn, last}
+use lib.ListN.{length-set}
+use Rattle.text.proofs.Spelling.{unspelled, turn, last}
 use Rattle.text.proofs.SpelledLaws.{fewer}
 use Rattle.text.specs.Decimal.{decimal, decimal_of}
 use Rattle.text.proofs.decimal.spell.Goals as goal

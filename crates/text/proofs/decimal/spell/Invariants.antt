@@ -1,12 +1,9 @@
 -- `decimal::spell` meets its contract: each turn spells the last digit of what is left.
 -- Assumes nothing.
-use mathlib.Core.Path.{◌≡◌, refl}
+use mathlib.Core.Path.{◌≡◌}
 use Prim.Native.Nat.{◌^◌, ◌≤◌, ◌<◌}
-use native.Mathlib.Omega.{arith}
-use borrow.Author.Tests.{lt-ltb, le-ltb}
-use lib.ListN.{length, length-set}
-use Rattle.text.proofs.Spelling.{Spelling, unspelled, turn, last}
-use Rattle.text.proofs.SpelledLaws.{fewer}
+use lib.ListN.{length}
+use Rattle.text.proofs.Spelling.{Spelling}
 use Rattle.text.specs.Decimal.{decimal, decimal_of}
 use Rattle.text.proofs.decimal.spell.Given as goal
 

@@ -1,14 +1,8 @@
 -- `hex::put_hex` meets its contract: each turn spells the last digit of what is left.
 -- Assumes nothing.
-use mathlib.Core.Path.{◌≡◌, refl, sym, ap, ◌∙◌}
 use Prim.Native.Nat.{◌≤◌}
-use native.Mathlib.Omega.{arith}
-use borrow.Author.Rules.{rules}
-use lib.ListN.{length}
-use Rattle.text.specs.laws.Over.{put_as}
-use Rattle.text.proofs.Spelling.{Spelling, unspelled, turn, full}
+use Rattle.text.proofs.Spelling.{Spelling}
 use Rattle.text.specs.Hex.{hex, hex_of}
-use Rattle.text.specs.laws.Lengths.{hex_length}
 use Rattle.text.proofs.hex.put_hex.Given as goal
 
 abbrev pub invariant-loop-i : goal.invariant-loop-i

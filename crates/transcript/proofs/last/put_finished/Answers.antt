@@ -5,7 +5,6 @@ use lib.Ieee.{binary32, to_bits}
 use Rattle.text.specs.laws.Over.{then}
 use Rattle.text.specs.laws.Lengths.{hex_length}
 use Rattle.transcript.specs.Transcript.{finished_of}
-use borrow.Author.Rules.{rules}
 use Rattle.transcript.proofs.last.put_finished.Goals as goal
 
 pub returns : goal.returns

@@ -3,7 +3,6 @@
 use Rattle.text.specs.laws.Over.{then, put_as}
 use Rattle.text.specs.laws.Lengths.{right_none}
 use Rattle.transcript.specs.Transcript.{last_line_of}
-use borrow.Author.Rules.{rules}
 use Rattle.transcript.proofs.last.put_last.Goals as goal
 
 pub returns : goal.returns

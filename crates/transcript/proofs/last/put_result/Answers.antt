@@ -1,11 +1,7 @@
 -- `transcript::last::put_result` meets its contract.
 -- Assumes nothing.
-use mathlib.Core.Path.{subst}
-use native.Mathlib.Omega.{arith}
-use Rattle.score.specs.Result.{ScoreIsNumber}
 use Rattle.transcript.specs.Transcript.{result_text_of}
 use Rattle.transcript.specs.laws.Transcript.{result_put}
-use borrow.Author.Rules.{rules}
 use Rattle.transcript.proofs.last.put_result.Goals as goal
 
 pub returns-in-Finished : goal.returns-in-Finished

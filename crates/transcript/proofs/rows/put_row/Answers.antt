@@ -3,7 +3,6 @@
 use native.Mathlib.Omega.{arith}
 use Rattle.text.specs.laws.Over.{then}
 use Rattle.transcript.specs.Transcript.{row_of}
-use borrow.Author.Rules.{rules}
 use Rattle.transcript.proofs.rows.put_row.Goals as goal
 
 pub returns : goal.returns

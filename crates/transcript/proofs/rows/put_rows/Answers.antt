@@ -1,9 +1,8 @@
 -- `transcript::rows::put_rows` meets its contract.
 -- Assumes nothing.
-use mathlib.Core.Path.{◌≡◌, refl, sym, ap, subst, ◌∙◌}
-use Prim.Native.Nat.{◌+◌, ◌*◌, ◌-◌, ◌≤◌}
+use mathlib.Core.Path.{sym, ap, subst, ◌∙◌}
 use native.Mathlib.Omega.{arith}
-use lib.ListN.{length, drop}
+use lib.ListN.{length}
 use Rattle.text.specs.Over.{over}
 use Rattle.text.specs.laws.Over.{over_none}
 use Rattle.action.specs.Table.{attributes_of}
@@ -12,8 +11,6 @@ use Rattle.craft_state.specs.Inside.{CraftIn}
 use Rattle.step.specs.Step.{executed_of}
 use Rattle.moves.specs.Modes.{plain}
 use Rattle.moves.specs.laws.Moves.{legal_playable, legal_keeps}
-use Rattle.transcript.specs.Transcript.{row_most, rows_of}
-use Rattle.transcript.specs.inner.Played.{Played}
 use Rattle.transcript.specs.laws.Transcript.{next_known, next_legal, rest_played, rows_over, rows_count, rows_end, rows_short}
 use Rattle.transcript.proofs.rows.put_rows.Goals as goal
 

@@ -38,12 +38,13 @@ slice_bounds-put_rows-end c = sym (part_length (goal.at.slice_bounds-put_rows-en
 
 pub put_rows-last-requires : goal.put_rows-last-requires
 put_rows-last-requires c =
-    let s = start_of (goal.at.put_rows-last-requires c).After-execute_actions-replay in
+    let at_execute_actions = (goal.at.put_rows-last-requires c).After-execute_actions-replay in
+    let s = start_of at_execute_actions in
     let e = c.fresh-start.ensures in (
       subst (CraftIn s.args.context) (sym e) (start_in s.args.context s.requires.0),
       subst (λ (x : CraftState). Played s.args.context x (take c.execute_actions-replay.result.executed s.args.list.now)) (sym e)
           (executed_played s.args.context s.args.list.now s.requires.0 (omega (arith, byte s)) s.requires.1 c.execute_actions-replay.ensures.0),
-      omega (arith, c.put_row-rows.ensures.1, (promise (goal.at.put_rows-last-requires c).After-execute_actions-replay).few, part_length (goal.at.put_rows-last-requires c).After-execute_actions-replay),
+      omega (arith, c.put_row-rows.ensures.1, (promise at_execute_actions).few, part_length at_execute_actions),
     )
 
 pub overflow_cast-executed : goal.overflow_cast-executed
@@ -51,7 +52,8 @@ overflow_cast-executed c = omega (arith, (promise (goal.at.overflow_cast-execute
 
 pub put_last-requires : goal.put_last-requires
 put_last-requires c =
-    (c.execute_actions-replay.ensures.1, omega (arith, c.put_row-rows.ensures.1, c.put_rows-last.ensures.1, (promise (goal.at.put_last-requires c).After-execute_actions-replay).few, part_length (goal.at.put_last-requires c).After-execute_actions-replay))
+    let at_execute_actions = (goal.at.put_last-requires c).After-execute_actions-replay in
+    (c.execute_actions-replay.ensures.1, omega (arith, c.put_row-rows.ensures.1, c.put_rows-last.ensures.1, (promise at_execute_actions).few, part_length at_execute_actions))
 
 pub returns : goal.returns
 returns c =

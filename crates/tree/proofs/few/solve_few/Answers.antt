@@ -27,7 +27,9 @@ pub best_children-requires : goal.best_children-requires
 best_children-requires c = blank_table c.requires.0 c.requires.1 _ refl
 
 pub way_len-needed-requires : goal.way_len-needed-requires
-way_len-needed-requires c = (table_rises _ _ c.requires.0 c.best_children.new.best (long (goal.at.way_len-needed-requires c).After-best_children) c.best_children.ensures, omega (arith, long (goal.at.way_len-needed-requires c).After-best_children, c.requires.0.some))
+way_len-needed-requires c =
+    let at_best_children = (goal.at.way_len-needed-requires c).After-best_children in
+    (table_rises _ _ c.requires.0 c.best_children.new.best (long at_best_children) c.best_children.ensures, omega (arith, long at_best_children, c.requires.0.some))
 
 pub returns-then-not-fits : goal.returns-then-not-fits
 returns-then-not-fits c = solution_short _ _ _ (of_tree c.requires.0) (is (goal.at.returns-then-not-fits c).After-way_len-needed) (sym c.has_room-fits.ensures ∙ c.if-not-fits.true)

@@ -1,6 +1,5 @@
 -- `craft_context::context::CraftContext::check` meets its contract.
 -- Assumes nothing.
-use Rattle.std.proofs.Common.{rules}
 use Rattle.refusal.specs.laws.Judge.{checks}
 use Rattle.craft_context.proofs.context.CraftContext.check.Goals as goal
 

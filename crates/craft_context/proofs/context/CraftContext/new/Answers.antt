@@ -1,6 +1,6 @@
 -- `craft_context::context::CraftContext::new` meets its contract.
 -- Assumes nothing.
-use Rattle.std.proofs.Common.{◌≡◌, List, [], ◌++◌, sym, refl, ap, ◌∙◌, rules}
+use Rattle.std.proofs.Common.{◌≡◌, List, [], ◌++◌, refl, ap, ◌∙◌}
 use Rattle.refusal.specs.declared.Checked.TheVariants.{Passed}
 use Rattle.refusal.specs.Judge.{Test, judged, checks_of}
 use Rattle.refusal.specs.Limits.{limits_from}
@@ -35,17 +35,21 @@ optional_pass c = refl
 
 pub returns-in-Refused : goal.returns-in-Refused
 unfolding first optional later
-returns-in-Refused c = stopped_by_lem (first (goal.at.returns-in-Refused c).Start) (optional (goal.at.returns-in-Refused c).Start ++ later (goal.at.returns-in-Refused c).Start) c.check_build-inputs.ensures c.in-Refused.is
+returns-in-Refused c =
+    let at_start = (goal.at.returns-in-Refused c).Start in
+    stopped_by_lem (first at_start) (optional at_start ++ later at_start) c.check_build-inputs.ensures c.in-Refused.is
 
 pub returns-in-Refused-inside : goal.returns-in-Refused-inside
 unfolding first optional later
 returns-in-Refused-inside c =
-    onward_by (first (goal.at.returns-in-Refused-inside c).Start) (optional (goal.at.returns-in-Refused-inside c).Start ++ later (goal.at.returns-in-Refused-inside c).Start) c.check_build-inputs.ensures c.in_default.is
-    (onward_by (optional (goal.at.returns-in-Refused-inside c).Start) (later (goal.at.returns-in-Refused-inside c).Start) (optional_pass (goal.at.returns-in-Refused-inside c).Start) refl (stopped_by_lem (later (goal.at.returns-in-Refused-inside c).Start) [] (tested (goal.at.returns-in-Refused-inside c).After-check_from-inside) c.in-Refused-inside.is))
+    let at_start = (goal.at.returns-in-Refused-inside c).Start in
+    onward_by (first at_start) (optional at_start ++ later at_start) c.check_build-inputs.ensures c.in_default.is
+    (onward_by (optional at_start) (later at_start) (optional_pass at_start) refl (stopped_by_lem (later at_start) [] (tested (goal.at.returns-in-Refused-inside c).After-check_from-inside) c.in-Refused-inside.is))
 
 pub returns : goal.returns
 unfolding first optional later
 returns c =
-    onward_by (first (goal.at.returns c).Start) (optional (goal.at.returns c).Start ++ later (goal.at.returns c).Start) c.check_build-inputs.ensures c.in_default.is
-    (onward_by (optional (goal.at.returns c).Start) (later (goal.at.returns c).Start) (optional_pass (goal.at.returns c).Start) refl
-    (onward_by (later (goal.at.returns c).Start) [] (tested (goal.at.returns c).After-check_from-inside) c.in_default-inside.is (answered refl (ap Context c.build-context.ensures))))
+    let at_start = (goal.at.returns c).Start in
+    onward_by (first at_start) (optional at_start ++ later at_start) c.check_build-inputs.ensures c.in_default.is
+    (onward_by (optional at_start) (later at_start) (optional_pass at_start) refl
+    (onward_by (later at_start) [] (tested (goal.at.returns c).After-check_from-inside) c.in_default-inside.is (answered refl (ap Context c.build-context.ensures))))

@@ -2,7 +2,6 @@
 -- Assumes nothing.
 use mathlib.Core.List.{[], ◌∷◌}
 use mathlib.Core.Path.{sym, ◌∙◌}
-use borrow.Author.Rules.{rules}
 use Rattle.refusal.specs.laws.Judge.{checks_stop_by, checks_on_by, alone, checks}
 use Rattle.craft_context.specs.Limits.{context_tests}
 use Rattle.craft_state.specs.Limits.{state_test}

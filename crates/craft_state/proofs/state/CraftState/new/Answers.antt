@@ -2,7 +2,6 @@
 -- Assumes nothing.
 use mathlib.Core.Path.{refl, ap}
 use mathlib.Core.List.{[]}
-use borrow.Author.Rules.{rules}
 use Rattle.refusal.specs.laws.Judge.{stopped_by_lem, onward_by, answered}
 use Rattle.craft_context.specs.Limits.{context_tests}
 use Rattle.craft_state.specs.declared.state.Started.TheVariants.{At}
