@@ -1,6 +1,7 @@
 // Kinds 18 to 20: the inner functions of one action, inside the limits that compare/ has too.
 use compare_lines::{case, say};
 use crafty::{Buffs, CraftContext};
+use std::io;
 
 const LAST_ACTION: u32 = 30;
 
@@ -17,30 +18,26 @@ const ACTIVE: u32 = 1;
 
 const SPENT: u32 = 2;
 
-fn outside() {
-    say::text(b"outside");
+fn outside(rt: &impl Print) -> io::Result<()> {
+    say::text(rt, b"outside")
 }
 
-fn progress_increase(line: &[u8]) {
+fn progress_increase(rt: &impl Print, line: &[u8]) -> io::Result<()> {
     let base = case::number(line, 0);
     let efficiency = case::number(line, 1);
     let veneration = case::number(line, 2);
     let muscle_memory = case::number(line, 3);
     if base > CraftContext::FACTOR_MOST {
-        outside();
-        return;
+        return outside(rt);
     }
     if efficiency > PROGRESS {
-        outside();
-        return;
+        return outside(rt);
     }
     if veneration > TIMER {
-        outside();
-        return;
+        return outside(rt);
     }
     if muscle_memory > TIMER {
-        outside();
-        return;
+        return outside(rt);
     }
     let gain = action::calc_progress_increase(
         base,
@@ -48,10 +45,10 @@ fn progress_increase(line: &[u8]) {
         veneration as u8,
         muscle_memory as u8,
     );
-    say::number(gain as u64);
+    say::number(rt, gain as u64)
 }
 
-fn quality_increase(line: &[u8]) {
+fn quality_increase(rt: &impl Print, line: &[u8]) -> io::Result<()> {
     let n = case::number(line, 0);
     let base = case::number(line, 1);
     let efficiency = case::number(line, 2);
@@ -60,32 +57,25 @@ fn quality_increase(line: &[u8]) {
     let great_strides = case::number(line, 5);
     let missing = case::number(line, 6);
     if n > LAST_ACTION {
-        outside();
-        return;
+        return outside(rt);
     }
     if base > CraftContext::FACTOR_MOST {
-        outside();
-        return;
+        return outside(rt);
     }
     if efficiency > QUALITY {
-        outside();
-        return;
+        return outside(rt);
     }
     if inner_quiet > Buffs::INNER_QUIET_MOST as u32 {
-        outside();
-        return;
+        return outside(rt);
     }
     if innovation > TIMER {
-        outside();
-        return;
+        return outside(rt);
     }
     if great_strides > TIMER {
-        outside();
-        return;
+        return outside(rt);
     }
     if missing > CraftContext::TARGET_MOST {
-        outside();
-        return;
+        return outside(rt);
     }
     let gain = action::calc_quality_increase(
         n as u8,
@@ -96,29 +86,25 @@ fn quality_increase(line: &[u8]) {
         innovation as u8,
         great_strides as u8,
     );
-    say::number(gain as u64);
+    say::number(rt, gain as u64)
 }
 
-fn durability_cost(line: &[u8]) {
+fn durability_cost(rt: &impl Print, line: &[u8]) -> io::Result<()> {
     let base = case::number(line, 0);
     let perfection = case::number(line, 1);
     let waste_not = case::number(line, 2);
     let waste_not_ii = case::number(line, 3);
     if base > WEAR {
-        outside();
-        return;
+        return outside(rt);
     }
     if perfection > SPENT {
-        outside();
-        return;
+        return outside(rt);
     }
     if waste_not > TIMER {
-        outside();
-        return;
+        return outside(rt);
     }
     if waste_not_ii > TIMER {
-        outside();
-        return;
+        return outside(rt);
     }
     let cost = action::calc_durability_cost(
         base,
@@ -126,13 +112,13 @@ fn durability_cost(line: &[u8]) {
         waste_not as u8,
         waste_not_ii as u8,
     );
-    say::number(cost as u64);
+    say::number(rt, cost as u64)
 }
 
-pub fn answer(kind: u64, line: &[u8]) {
+pub fn answer(rt: &impl Print, kind: u64, line: &[u8]) -> io::Result<()> {
     match kind {
-        18 => progress_increase(line),
-        19 => quality_increase(line),
-        _ => durability_cost(line),
+        18 => progress_increase(rt, line),
+        19 => quality_increase(rt, line),
+        _ => durability_cost(rt, line),
     }
 }

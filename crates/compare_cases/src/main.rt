@@ -2,8 +2,8 @@
 
 #![tactic(auto)]
 
-use compare_lines::{case, say};
-use libc::STDIN_FILENO;
+use compare_lines::{block, case, say};
+use std::io;
 
 mod inner;
 mod of_actions;
@@ -15,37 +15,40 @@ const WIDTH: usize = 256;
 // A whole number of lines.
 const BLOCK: usize = 4096;
 
-fn answer(line: &[u8]) {
+fn answer(rt: &impl Print, line: &[u8]) -> io::Result<()> {
     let kind = case::kind(line);
     match kind {
-        1..=7 => of_actions::answer(kind, line),
-        8..=17 => of_sets::answer(kind, line),
-        18..=20 => inner::answer(kind, line),
-        _ => of_contexts::answer(line),
+        1..=7 => of_actions::answer(rt, kind, line)?,
+        8..=17 => of_sets::answer(rt, kind, line)?,
+        18..=20 => inner::answer(rt, kind, line)?,
+        _ => of_contexts::answer(rt, line)?,
     }
-    say::text(b"\n");
+    say::text(rt, b"\n")
 }
 
-fn answer_all(lines: &[u8]) {
+fn answer_all(rt: &impl Print, lines: &[u8]) -> io::Result<()> {
     let mut left = lines.len() / WIDTH;
     let mut at = 0;
     while left > 0 {
-        answer(&lines[at..at + WIDTH]);
+        answer(rt, &lines[at..at + WIDTH])?;
         at += WIDTH;
         left -= 1;
     }
+    Ok(())
 }
 
 // Block after block, up to a hundred million lines.
-fn main() {
-    let mut block = io::buffer();
+fn main(rt: HostRuntime) -> io::Result<()> {
+    let mut input = rt.stdin();
+    let mut bytes = [0u8; BLOCK];
     let mut blocks: u32 = 6250000;
     while blocks > 0 {
-        let got = io::read_full(STDIN_FILENO, &mut block);
-        answer_all(&block[..got]);
+        let got = block::fill(&mut input, &mut bytes)?;
+        answer_all(&rt, &bytes[..got])?;
         if got < BLOCK {
-            return;
+            return Ok(());
         }
         blocks -= 1;
     }
+    Ok(())
 }

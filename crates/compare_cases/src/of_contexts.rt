@@ -3,6 +3,7 @@ ghost use Rattle.std.specs.Prelude.{◌<◌};
 
 use compare_lines::{case, say};
 use crafty::{Built, CraftContext, CraftOptions, Given, Player, Recipe};
+use std::io;
 
 // The flags, by their weights in the last number.
 const FLAGS: usize = 18;
@@ -81,29 +82,29 @@ fn options(line: &[u8]) -> CraftOptions {
     }
 }
 
-fn show(c: CraftContext) {
-    say::number(c.player_job_level as u64);
-    say::next(c.recipe_job_level);
-    say::next(c.base_progress_factor);
-    say::next(c.base_quality_factor);
-    say::next(c.step_max as u32);
-    say::next(c.progress_target);
-    say::next(c.starting_quality);
-    say::next(c.quality_target);
-    say::next_signed(c.durability_max);
-    say::next(c.cp_max);
-    say::next_bit(c.is_expert);
+fn show(rt: &impl Print, c: CraftContext) -> io::Result<()> {
+    say::number(rt, c.player_job_level as u64)?;
+    say::next(rt, c.recipe_job_level)?;
+    say::next(rt, c.base_progress_factor)?;
+    say::next(rt, c.base_quality_factor)?;
+    say::next(rt, c.step_max as u32)?;
+    say::next(rt, c.progress_target)?;
+    say::next(rt, c.starting_quality)?;
+    say::next(rt, c.quality_target)?;
+    say::next_signed(rt, c.durability_max)?;
+    say::next(rt, c.cp_max)?;
+    say::next_bit(rt, c.is_expert)?;
     let pool = c.action_pool;
-    say::next(pool.0);
-    say::next_bit(c.player_is_specialist);
-    say::next_bit(c.use_manipulation);
-    say::next_bit(c.use_delineation);
+    say::next(rt, pool.0)?;
+    say::next_bit(rt, c.player_is_specialist)?;
+    say::next_bit(rt, c.use_manipulation)?;
+    say::next_bit(rt, c.use_delineation)
 }
 
-pub fn answer(line: &[u8]) {
+pub fn answer(rt: &impl Print, line: &[u8]) -> io::Result<()> {
     let built = CraftContext::new(player(line), recipe(line), options(line));
     match built {
-        Built::Context(c) => show(c),
-        Built::Refused(x) => say::refused(x),
+        Built::Context(c) => show(rt, c),
+        Built::Refused(x) => say::refused(rt, x),
     }
 }

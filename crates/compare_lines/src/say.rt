@@ -1,61 +1,53 @@
 // Words of an answer on standard output.
 use crafty::{Also, Amount, Refusal};
-use libc::STDOUT_FILENO;
+use std::io;
 
-pub fn text(bytes: &[u8]) {
-    io::write_all(STDOUT_FILENO, bytes);
+pub fn text(rt: &impl Print, bytes: &[u8]) -> io::Result<()> {
+    rt.write_all(bytes)
 }
 
-pub fn number(n: u64) {
-    io::print_decimal(STDOUT_FILENO, n);
+pub fn number(rt: &impl Print, n: u64) -> io::Result<()> {
+    print!(rt; "{n}")
 }
 
-pub fn amount(a: Amount) {
+pub fn amount(rt: &impl Print, a: Amount) -> io::Result<()> {
     match a {
-        Amount::Of(n) => number(n as u64),
-        Amount::Nothing => text(b"-"),
+        Amount::Of(n) => number(rt, n as u64),
+        Amount::Nothing => text(rt, b"-"),
     }
 }
 
-pub fn yes(b: bool) {
-    if b {
-        text(b"yes");
-    } else {
-        text(b"no");
-    }
+pub fn yes(rt: &impl Print, b: bool) -> io::Result<()> {
+    if b { text(rt, b"yes") } else { text(rt, b"no") }
 }
 
-pub fn refused(x: Refusal) {
+pub fn refused(rt: &impl Print, x: Refusal) -> io::Result<()> {
     let report = x.reported();
-    text(b"refused ");
-    number(report.0 as u64);
+    text(rt, b"refused ")?;
+    number(rt, report.0 as u64)?;
     let also = report.1;
     match also {
         Also::Value(v) => {
-            text(b" ");
-            number(v as u64);
+            text(rt, b" ")?;
+            number(rt, v as u64)
         }
-        Also::Nothing => {}
+        Also::Nothing => Ok(()),
     }
 }
 
 // One more word.
-pub fn next(n: u32) {
-    text(b" ");
-    number(n as u64);
+pub fn next(rt: &impl Print, n: u32) -> io::Result<()> {
+    text(rt, b" ")?;
+    number(rt, n as u64)
 }
 
-pub fn next_bit(b: bool) {
-    if b {
-        text(b" 1");
-    } else {
-        text(b" 0");
-    }
+pub fn next_bit(rt: &impl Print, b: bool) -> io::Result<()> {
+    if b { text(rt, b" 1") } else { text(rt, b" 0") }
 }
 
-pub fn next_signed(z: i8) {
+pub fn next_signed(rt: &impl Print, z: i8) -> io::Result<()> {
     let mut room = [0u8; 10];
     let k = text::put_signed(&mut room, 0, z, 0);
-    text(b" ");
-    text(&room[..k]);
+    text(rt, b" ")?;
+    text(rt, &room[..k])
 }

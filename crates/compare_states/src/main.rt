@@ -2,8 +2,8 @@
 
 #![tactic(auto)]
 
-use compare_lines::{case, say};
-use libc::STDIN_FILENO;
+use compare_lines::{block, case, say};
+use std::io;
 
 mod answer;
 mod displays;
@@ -27,34 +27,38 @@ fn put_answer(room: &mut [u8], line: &[u8]) -> usize {
     }
 }
 
-fn write_answer(line: &[u8]) {
+fn write_answer(rt: &impl Print, line: &[u8]) -> io::Result<()> {
     let mut room = [0u8; 8192];
     let end = put_answer(&mut room, line);
     if end <= ROOM {
-        say::text(&room[..end]);
+        return say::text(rt, &room[..end]);
     }
+    Ok(())
 }
 
-fn answer_all(lines: &[u8]) {
+fn answer_all(rt: &impl Print, lines: &[u8]) -> io::Result<()> {
     let mut left = lines.len() / WIDTH;
     let mut at = 0;
     while left > 0 {
-        write_answer(&lines[at..at + WIDTH]);
+        write_answer(rt, &lines[at..at + WIDTH])?;
         at += WIDTH;
         left -= 1;
     }
+    Ok(())
 }
 
 // Block after block, up to a hundred million lines.
-fn main() {
-    let mut block = io::buffer();
+fn main(rt: HostRuntime) -> io::Result<()> {
+    let mut input = rt.stdin();
+    let mut bytes = [0u8; BLOCK];
     let mut blocks: u32 = 12500000;
     while blocks > 0 {
-        let got = io::read_full(STDIN_FILENO, &mut block);
-        answer_all(&block[..got]);
+        let got = block::fill(&mut input, &mut bytes)?;
+        answer_all(&rt, &bytes[..got])?;
         if got < BLOCK {
-            return;
+            return Ok(());
         }
         blocks -= 1;
     }
+    Ok(())
 }
