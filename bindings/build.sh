@@ -7,7 +7,7 @@ source "$root/progress.sh"
 kit=$(cd "$(dirname "$(readlink -f "$(command -v rt)")")/.." && pwd)
 tools=$kit/on/$(uname -m)/toolchain
 built=$root/target/bindings
-archive=$root/target/staticlib/libcrafty_c.a
+archive=$root/crates/crafty_c/out/libcrafty_c.a
 
 is_native() {
     [ "$(uname -m)" = x86_64 ]
@@ -18,11 +18,10 @@ has_compiler() {
     command -v cc > /dev/null
 }
 
-# Anew only where a crate has changed since.
+# rt builds it anew only where a crate has changed since.
 build_archive() {
     mkdir -p "$built"
-    [ -n "$(find "$root/crates" "$root/crates.txt" -newer "$archive" 2>&1 | head -n 1)" ] || return 0
-    prove "$built/archive.log" "$(count_crates crafty_c)" staticlib crafty_c || { cat "$built/archive.log" >&2; exit 1; }
+    prove "$built/archive.log" crates/crafty_c lib || { cat "$built/archive.log" >&2; exit 1; }
 }
 
 # build_program NAME SOURCE: target/bindings/NAME, with the archive in it.

@@ -6,33 +6,30 @@ mod input;
 
 use crafty::Written;
 use input::{ROOM, Reading};
-use libc::{STDERR_FILENO, STDOUT_FILENO};
+use std::io;
 use transcript::TRANSCRIPT_MOST;
 
-fn complain() {
-    io::write_all(
-        STDERR_FILENO,
-        b"replay: the input could not be read; nothing was judged\n",
-    );
+fn complain(rt: &impl Eprint) -> io::Result<()> {
+    eprintln!(rt; "replay: the input could not be read; nothing was judged")
 }
 
 // The room is always enough (`printed_whole`).
-fn print(input: &[u8]) {
+fn print(rt: &impl Print, input: &[u8]) -> io::Result<()> {
     let mut out = [0u8; TRANSCRIPT_MOST];
     let written = crafty::replay_output(input, &mut out);
     let Written::Length(k) = written else {
-        return;
+        return Ok(());
     };
-    io::write_all(STDOUT_FILENO, &out[..k]);
+    rt.write_all(&out[..k])
 }
 
 // Only a whole input is judged, so an empty standard output says that nothing was.
-fn main() {
+fn main(rt: HostRuntime) -> io::Result<()> {
     let mut input = [0u8; ROOM];
-    let reading = input::read(&mut input);
+    let mut from = rt.reader();
+    let reading = input::read(&mut from, &mut input);
     let Reading::Whole(length) = reading else {
-        complain();
-        return;
+        return complain(&rt);
     };
-    print(&input[..length]);
+    print(&rt, &input[..length])
 }

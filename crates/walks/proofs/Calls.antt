@@ -1,6 +1,5 @@
 -- The calls of a walk, as steps of `Types/Kit.antt`'s calculus. Each slice stands in the context, with its token after it, before the call and after it.
---     Pass             a slice that the caller hands to the callee: lend_mut p S ys same, a `&mut` lent again as a `&mut`; lend_shr cp p S ys same, a `&mut` lent as a `&`; pass_shr cp p S ys same, a `&` passed on.
---                      p is the slice's number, from 0, as the slices stand at the front of the context, and cp says that a `&` to an element can be made and passed on, as `copied` of a `Datum` does
+-- `Passes.antt` has how a slice is handed over: lend_mut, lend_shr and pass_shr.
 --     calls_slices     the call. The `&mut` slices come back at the lists that the callee left, and all others as they were
 --     calls_mut, calls_shared, calls_shr, calls_both      the same where the slices are the head of the context, each with names of its own.        calls_plain      a call with no slice
 -- A call ends a block (`last`), or another statement follows it (`then`). What is left to show is at the result's machine value, written out.
@@ -40,7 +39,8 @@ use Rattle.walks.proofs.Lend.{View, fat, named_at, bor_at, Tok, Own, Shr, MutFor
 use Rattle.walks.proofs.Values.{Copies, Datum, Data, machine, Known, rows_of, vals_of, at, from, from_at, flat_at, had}
 use Rattle.walks.proofs.Locals.{under⊢, pack⊢, unpack⊢}
 use Rattle.walks.proofs.Arrays.{changes}
-use Rattle.walks.proofs.Functions.{Met, asked, ask_in, met_in, Lent, shr, mut, element, lent_at, lives, Lists, Lefts, SlicesFn, MutFn, ShrFn, BothFn, PlainFn, of_mut, of_shr, of_both, of_plain, params_of, types_of, lists_of, plains_of, lefts_of, slices_t, entered, passed, ContractSlices}
+use Rattle.walks.proofs.Passes.{Pass, lend_mut, lend_shr, pass_shr, theirs, here, token, wide, number, taken, given, still, wides, LeftFor, twice, gone, blank, looks, wants, lefts, laid, left_at, Stand}
+use Rattle.walks.proofs.Functions.{Met, asked, ask_in, met_in, lent_at, lives, Lists, Lefts, SlicesFn, MutFn, ShrFn, BothFn, PlainFn, of_mut, of_shr, of_both, of_plain, params_of, types_of, lists_of, plains_of, lefts_of, slices_t, entered, passed, ContractSlices}
 
 -- ---- where a call stands: another statement follows it, or it ends its block
 pub data Site (f : Callee) (xs : List Operand) (d : Place) : Body → Type 0 where
@@ -79,40 +79,8 @@ copied {𝓤 = 𝓤} {𝓛} {R = R} t c S ys = step (λ k. fsplit t $ pure_l t (
     pure_i t (shr_slice_at R (bor_at S ys) (fat S ∷ [])) (tt, (tt, tt)) fact $ fjoin t $ move t (1 ∷ []) $
     pure_i t (shr_slice_at R (bor_at S ys) (slice_val (S.block, S.offset) (length ys) ∷ [])) (tt, (tt, tt)) (refl, fact.1) $ fjoin t $ k))
 
--- ---- the slices of a call
-pub data Pass : Type 2 where
-  lend_mut : {R : RattleType} → ℕ → (S : View R) (ys : List R.Denot) → length ys ≡ S.count → Pass
-  lend_shr : {R : RattleType} → Copies R → ℕ → (S : View R) (ys : List R.Denot) → length ys ≡ S.count → Pass
-  pass_shr : {R : RattleType} → Copies R → ℕ → (S : View R) (ys : List R.Denot) → length ys ≡ S.count → Pass
-
 -- ---- one slice
-abbrev pub theirs : Pass → Lent
-theirs (lend_mut {R} p S ys e) = mut R
-theirs (lend_shr {R} cp p S ys e) = shr R
-theirs (pass_shr {R} cp p S ys e) = shr R
-
--- what the caller has of it, and the token
-abbrev pub here : Pass → Fml
-here (lend_mut p S ys e) = Own S ys
-here (lend_shr cp p S ys e) = Own S ys
-here (pass_shr cp p S ys e) = Shr S ys
-
-abbrev pub token : Pass → Fml
-token (lend_mut p S ys e) = Tok S
-token (lend_shr cp p S ys e) = Tok S
-token (pass_shr cp p S ys e) = Tok S
-
-abbrev pub number : Pass → ℕ
-number (lend_mut p S ys e) = p
-number (lend_shr cp p S ys e) = p
-number (pass_shr cp p S ys e) = p
-
--- its machine value, as the caller and as the callee's contract has it
-abbrev pub wide : Pass → Val
-wide (lend_mut p S ys e) = fat S
-wide (lend_shr cp p S ys e) = fat S
-wide (pass_shr cp p S ys e) = fat S
-
+-- its machine value, as the callee's contract has it
 abbrev counted : Pass → Val
 counted (lend_mut p S ys e) = slice_val (S.block, S.offset) (length ys)
 counted (lend_shr cp p S ys e) = slice_val (S.block, S.offset) (length ys)
@@ -194,36 +162,6 @@ module _ {M : Type 1} {𝓤 : Ura M} (𝓛 : Logic 𝓤) where
       qed 𝓛 (‵ (Tok S) ∷ ‵ ftrue ∷ ‵ (Shr S ys) ∷ []) ∵ updating ! $ at_once ! $ move ! (1 ∷ []) $ drop ! $ suffices ! (sep 𝓤 (sem 𝓛 (Shr S ys)) (sem 𝓛 (Tok S))) (guard_i 𝓤 _ _ tt) $ move ! (1 ∷ 0 ∷ []) $ done !
 
 -- ---- all slices
-abbrev pub taken : List Pass → List Lent
-taken [] = []
-taken (x ∷ xs) = theirs x ∷ taken xs
-
-abbrev list_of : (x : Pass) → List (element (theirs x)).Denot
-list_of (lend_mut p S ys e) = ys
-list_of (lend_shr cp p S ys e) = ys
-list_of (pass_shr cp p S ys e) = ys
-
-abbrev pub given : (xs : List Pass) → Lists (taken xs)
-given [] = tt
-given (x ∷ xs) = (list_of x, given xs)
-
--- the lists of the `&mut` ones as they are
-abbrev still : (xs : List Pass) → Lefts (taken xs)
-still [] = tt
-still (lend_mut p S ys e ∷ xs) = (ys, still xs)
-still (lend_shr cp p S ys e ∷ xs) = still xs
-still (pass_shr cp p S ys e ∷ xs) = still xs
-
-abbrev pub wides : List Pass → List Val → List Val
-wides [] vs = vs
-wides (x ∷ xs) vs = wide x ∷ wides xs vs
-
-abbrev pub LeftFor : (xs : List Pass) → Lefts (taken xs) → Type 0
-LeftFor [] Z = Unit {0}
-LeftFor (lend_mut p S ys e ∷ xs) Z = (length Z.0 ≡ S.count) × LeftFor xs Z.1
-LeftFor (lend_shr cp p S ys e ∷ xs) Z = LeftFor xs Z
-LeftFor (pass_shr cp p S ys e ∷ xs) Z = LeftFor xs Z
-
 -- the new lifetime and the new name of each
 abbrev Choices : List Pass → Type 0
 Choices [] = Unit {0}
@@ -237,48 +175,8 @@ abbrev shares_of : (xs : List Pass) → Shares (lives (taken xs))
 shares_of [] = tt
 shares_of (x ∷ xs) = (share x, shares_of xs)
 
--- where they stand in the context: what is there, the context without them, and with others in their places
-abbrev twice : ℕ → ℕ
-twice zero = zero
-twice (suc n) = suc (suc (twice n))
-
+-- what stands at them is taken out of the context, and put in again
 module _ {M : Type 1} {𝓤 : Ura M} (𝓛 : Logic 𝓤) where
-  abbrev gone : Pass → List (Item 𝓤) → List (Item 𝓤)
-  gone x Γ = put 𝓛 (suc (twice (number x))) (‵ ftrue) (put 𝓛 (twice (number x)) (‵ ftrue) Γ)
-
-  abbrev pub blank : List Pass → List (Item 𝓤) → List (Item 𝓤)
-  blank [] Γ = Γ
-  blank (x ∷ xs) Γ = blank xs (gone x Γ)
-
-  abbrev pub looks : List Pass → List (Item 𝓤) → List (Item 𝓤 × Item 𝓤)
-  looks [] Γ = []
-  looks (x ∷ xs) Γ = (nth 𝓛 (twice (number x)) Γ, nth 𝓛 (suc (twice (number x))) (put 𝓛 (twice (number x)) (‵ ftrue) Γ)) ∷ looks xs (gone x Γ)
-
-  abbrev pub wants : List Pass → List (Item 𝓤 × Item 𝓤)
-  wants [] = []
-  wants (x ∷ xs) = (‵ (here x), ‵ (token x)) ∷ wants xs
-
-  abbrev lefts : (xs : List Pass) → Lefts (taken xs) → List (Item 𝓤 × Item 𝓤)
-  lefts [] Z = []
-  lefts (lend_mut p S ys e ∷ xs) Z = (‵ (Own S Z.0), ‵ (Tok S)) ∷ lefts xs Z.1
-  lefts (lend_shr cp p S ys e ∷ xs) Z = (‵ (Own S ys), ‵ (Tok S)) ∷ lefts xs Z
-  lefts (pass_shr cp p S ys e ∷ xs) Z = (‵ (Shr S ys), ‵ (Tok S)) ∷ lefts xs Z
-
-  abbrev laid : List Pass → List (Item 𝓤 × Item 𝓤) → List (Item 𝓤) → List (Item 𝓤)
-  laid [] is Γ = Γ
-  laid (x ∷ xs) [] Γ = blank (x ∷ xs) Γ
-  laid (x ∷ xs) (i ∷ is) Γ = put 𝓛 (twice (number x)) i.0 (put 𝓛 (suc (twice (number x))) i.1 (laid xs is (gone x Γ)))
-
-  abbrev pub left_at : (xs : List Pass) → Lefts (taken xs) → List (Item 𝓤) → List (Item 𝓤)
-  left_at [] Z Γ = Γ
-  left_at (lend_mut p S ys e ∷ xs) Z Γ = left_at xs Z.1 (put 𝓛 (twice p) (‵ (Own S Z.0)) Γ)
-  left_at (lend_shr cp p S ys e ∷ xs) Z Γ = left_at xs Z Γ
-  left_at (pass_shr cp p S ys e ∷ xs) Z Γ = left_at xs Z Γ
-
-  -- that each slice stands at its number, and that the context with the lists of Z is what it is where they are put back one by one
-  abbrev pub Stand : (xs : List Pass) → List (Item 𝓤) → Type 2
-  Stand xs Γ = (Z : Lefts (taken xs)) → ◌≡◌ {A = List (Item 𝓤 × Item 𝓤) × List (Item 𝓤)} (looks xs Γ, laid xs (lefts xs Z) Γ) (wants xs, left_at xs Z Γ)
-
   abbrev Both : List (Item 𝓤 × Item 𝓤) → SProp 𝓤
   Both [] = emp 𝓤
   Both (i ∷ is) = sep 𝓤 (sep 𝓤 (mean 𝓛 i.0) (mean 𝓛 i.1)) (Both is)
@@ -290,25 +188,25 @@ module _ {M : Type 1} {𝓤 : Ura M} (𝓛 : Logic 𝓤) where
     put_in : (n : ℕ) (i : Item 𝓤) (Γ : List (Item 𝓤)) → ent 𝓤 (sep 𝓤 (mean 𝓛 i) (⋆ 𝓛 Γ)) (⋆ 𝓛 (put 𝓛 n i Γ))
     put_in n i Γ = via 𝓤 _ (mono_r 𝓤 (mean 𝓛 i) (via 𝓤 _ (pull 𝓛 n Γ) (snd∗ 𝓤 (mean 𝓛 (nth 𝓛 n Γ)) (⋆ 𝓛 (del 𝓛 n Γ))))) (fill 𝓛 n i Γ)
 
-    all_out : (xs : List Pass) (Γ : List (Item 𝓤)) → ent 𝓤 (⋆ 𝓛 Γ) (sep 𝓤 (Both (looks xs Γ)) (⋆ 𝓛 (blank xs Γ)))
+    all_out : (xs : List Pass) (Γ : List (Item 𝓤)) → ent 𝓤 (⋆ 𝓛 Γ) (sep 𝓤 (Both (looks 𝓛 xs Γ)) (⋆ 𝓛 (blank 𝓛 xs Γ)))
     all_out [] Γ = emp∗ 𝓤 (⋆ 𝓛 Γ)
     all_out (x ∷ xs) Γ =
         let n : ℕ = twice (number x) in
         let Γ₁ : List (Item 𝓤) = put 𝓛 n (‵ ftrue) Γ in
-        let Γ₂ : List (Item 𝓤) = gone x Γ in
+        let Γ₂ : List (Item 𝓤) = gone 𝓛 x Γ in
         qed 𝓛 (raw (⋆ 𝓛 Γ) ∷ []) ∵ use1 𝓛 (nth 𝓛 n Γ ⊛ raw (⋆ 𝓛 Γ₁)) (take_out n Γ) $ split ! $ move ! (1 ∷ []) $
         use1 𝓛 (nth 𝓛 (suc n) Γ₁ ⊛ raw (⋆ 𝓛 Γ₂)) (take_out (suc n) Γ₁) $ split ! $ move ! (1 ∷ []) $
-        use1 𝓛 (raw (Both (looks xs Γ₂)) ⊛ raw (⋆ 𝓛 (blank xs Γ₂))) (all_out xs Γ₂) $ split ! $ move ! (3 ∷ 2 ∷ []) $ join ! $ join ! $ done !
+        use1 𝓛 (raw (Both (looks 𝓛 xs Γ₂)) ⊛ raw (⋆ 𝓛 (blank 𝓛 xs Γ₂))) (all_out xs Γ₂) $ split ! $ move ! (3 ∷ 2 ∷ []) $ join ! $ join ! $ done !
 
-    all_in : (xs : List Pass) (is : List (Item 𝓤 × Item 𝓤)) (Γ : List (Item 𝓤)) → ent 𝓤 (sep 𝓤 (Both is) (⋆ 𝓛 (blank xs Γ))) (⋆ 𝓛 (laid xs is Γ))
+    all_in : (xs : List Pass) (is : List (Item 𝓤 × Item 𝓤)) (Γ : List (Item 𝓤)) → ent 𝓤 (sep 𝓤 (Both is) (⋆ 𝓛 (blank 𝓛 xs Γ))) (⋆ 𝓛 (laid 𝓛 xs is Γ))
     all_in [] is Γ = snd∗ 𝓤 (Both is) (⋆ 𝓛 Γ)
-    all_in (x ∷ xs) [] Γ = snd∗ 𝓤 (emp 𝓤) (⋆ 𝓛 (blank (x ∷ xs) Γ))
+    all_in (x ∷ xs) [] Γ = snd∗ 𝓤 (emp 𝓤) (⋆ 𝓛 (blank 𝓛 (x ∷ xs) Γ))
     all_in (x ∷ xs) (i ∷ is) Γ =
         let n : ℕ = twice (number x) in
-        let Γ₁ : List (Item 𝓤) = laid xs is (gone x Γ) in
+        let Γ₁ : List (Item 𝓤) = laid 𝓛 xs is (gone 𝓛 x Γ) in
         let Γ₂ : List (Item 𝓤) = put 𝓛 (suc n) i.1 Γ₁ in
-        qed 𝓛 (((i.0 ⊛ i.1) ⊛ raw (Both is)) ∷ raw (⋆ 𝓛 (blank (x ∷ xs) Γ)) ∷ []) ∵ split ! $ move ! (1 ∷ 2 ∷ []) $
-        use2 𝓛 (raw (⋆ 𝓛 Γ₁)) (all_in xs is (gone x Γ)) $ move ! (1 ∷ []) $ split ! $ move ! (1 ∷ 2 ∷ []) $
+        qed 𝓛 (((i.0 ⊛ i.1) ⊛ raw (Both is)) ∷ raw (⋆ 𝓛 (blank 𝓛 (x ∷ xs) Γ)) ∷ []) ∵ split ! $ move ! (1 ∷ 2 ∷ []) $
+        use2 𝓛 (raw (⋆ 𝓛 Γ₁)) (all_in xs is (gone 𝓛 x Γ)) $ move ! (1 ∷ []) $ split ! $ move ! (1 ∷ 2 ∷ []) $
         use2 𝓛 (raw (⋆ 𝓛 Γ₂)) (put_in (suc n) i.1 Γ₁) $ move ! (1 ∷ 0 ∷ []) $ by ! (put_in n i.0 Γ₂)
 
 -- all are lent

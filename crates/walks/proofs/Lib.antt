@@ -5,10 +5,12 @@ pub mod Values
 pub mod Functions
 pub mod Locals
 pub mod Flow
+pub mod Forks
 pub mod Enums
 pub mod Lend
 pub mod Reborrow
 pub mod Elements
 pub mod Arrays
+pub mod Passes
 pub mod Calls
 pub mod Meets

@@ -1,7 +1,7 @@
 -- The words of a walk, from one place, and how a walk is written. Open this file first.
 --
 -- A proof by hand of a function with a parameter `&[Node]` or `&mut [Node]` goes through its MIR, one line to a statement. Where the prover's own walk of the code covers the function, none is needed.
--- `rt check --generated DIR` writes the MIR of the function f to proofs/f/Code/Mir.antt below DIR. `Values.antt` has the types of plain data, `Functions.antt` what a function takes, asks and says, `Calls.antt`, `Flow.antt` and `Locals.antt` the steps.
+-- `rt check --generated DIR` writes the MIR of the function f to proofs/f/Code/Mir.antt below DIR. `Values.antt` has the types of plain data, `Functions.antt` what a function takes, asks and says, `Calls.antt` (with `Passes.antt`), `Flow.antt`, `Forks.antt` and `Locals.antt` the steps.
 --
 -- 1. The shapes that the source wants
 --   - The slices come first, each `&[R]` or `&mut [R]`, in any number and order, and then plain parameters. What a function gives back is plain data: a number, a bool, `()`, a struct or an enum.
@@ -86,12 +86,14 @@ pub use types.Part.{agg}
 pub use denote.Triple.Table.{cited}
 pub use Rattle.walks.proofs.Values.{usize', u8', u32', f32', bool', unit'}
 pub use Rattle.walks.proofs.Locals.{none, has, holding, env, opd, part, ◌&◌, sets, sets_last, lands_in, lands_last, keeps, returns}
-pub use Rattle.walks.proofs.Flow.{decides, forks, guards, whiles}
+pub use Rattle.walks.proofs.Flow.{decides}
+pub use Rattle.walks.proofs.Forks.{forks, guards, whiles}
 pub use Rattle.walks.proofs.Enums.{lands_as, tag, within, matches}
 pub use Rattle.walks.proofs.Reborrow.{reborrows}
 pub use Rattle.walks.proofs.Elements.{reads_at, writes_at}
 pub use Rattle.walks.proofs.Arrays.{array_val_lem, lent_view, restated, fills, borrows, lends_array, takes_array}
 pub use Rattle.walks.proofs.Lend.{fat, Own, Shr, Tok}
 pub use Rattle.walks.proofs.Functions.{of_mut, of_shr, of_both}
-pub use Rattle.walks.proofs.Calls.{then, last, lend_mut, lend_shr, pass_shr, calls_slices, calls_mut, calls_shared, calls_shr, calls_both, calls_plain}
+pub use Rattle.walks.proofs.Passes.{lend_mut, lend_shr, pass_shr}
+pub use Rattle.walks.proofs.Calls.{then, last, calls_slices, calls_mut, calls_shared, calls_shr, calls_both, calls_plain}
 pub use Rattle.walks.proofs.Meets.{over, slices_proved, mut_proved, shr_proved, both_proved}

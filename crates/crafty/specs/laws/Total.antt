@@ -68,7 +68,7 @@ pub total-ActionSet-from-bits : (bits : ℕ) → Refuses changed (1 ∷ []) (Fro
 total-ActionSet-from-bits bits = says_refuses
 
 pub total-ActionSet-from-list : (list : List ℕ) → Refuses changed (3 ∷ []) (FromList list)
-total-ActionSet-from-list list = says_refuses
+total-ActionSet-from-list xs = says_refuses
 
 pub total-ActionSet-contains : (bits n : ℕ) → Refuses asked (1 ∷ 3 ∷ []) (Contains bits n)
 total-ActionSet-contains bits n = says_refuses
@@ -125,16 +125,16 @@ total_display context state out = writes_refuses
 -- ---- replay, lists and the program
 
 pub total_replay : (context : CraftContext) (mode : Mode) (list : List ℕ) → Refuses replayed (1 ∷ 3 ∷ []) (Replays context mode list)
-total_replay context mode list r s = says_refuses r s.says
+total_replay context mode xs r s = says_refuses r s.says
 
 pub total_read_list : (text out : List ℕ) → RefusesWhole written (5 ∷ 6 ∷ []) out (ReadsList text out)
 total_read_list text out = writes_refuses
 
 pub total_write_list : (list out : List ℕ) → RefusesWhole written (13 ∷ 3 ∷ 6 ∷ []) out (WritesList list out)
-total_write_list list out = writes_refuses
+total_write_list xs out = writes_refuses
 
 pub total_macro_time : (list : List ℕ) → Refuses lasting (13 ∷ 3 ∷ []) (Lasts list)
-total_macro_time list = says_refuses
+total_macro_time xs = says_refuses
 
 pub total_replay_text : (input out : List ℕ) → RefusesWhole written (13 ∷ 12 ∷ 1 ∷ 5 ∷ 6 ∷ []) out (ReplaysText input out)
 total_replay_text input out = writes_refuses

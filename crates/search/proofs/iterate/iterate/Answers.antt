@@ -24,8 +24,7 @@ node_at-n-requires c =
 
 pub plan_at-plan-requires : goal.plan_at-plan-requires
 plan_at-plan-requires c =
-    let here = (goal.at.plan_at-plan-requires c).After-select-chosen in
-    (
+    let here = (goal.at.plan_at-plan-requires c).After-select-chosen in (
       chosen_movable c.args.context c.args.options c.args.logs.now c.args.draws.now c.args.nodes.now c.args.count c.args.at c.requires.0 c.requires.1 c.select-chosen.ensures c.node_at-n.ensures,
       c.requires.1,
       within here,

@@ -9,13 +9,16 @@ use Rattle.step.specs.inner.Asked.{Playable}
 use Rattle.tree.specs.declared.node.Node.{Node}
 use Rattle.tree.specs.Tree.{node_at}
 use Rattle.search.specs.Iterate.{below_of}
-use Rattle.search.specs.laws.Storing.{store_draw, store_room, store_set, store_low, store_playable, store_craft, part_on, part_more, part_all}
+use Rattle.search.specs.laws.Storing.{store_draw, store_room, store_set, store_low, store_playable, store_craft, part_first, part_on, part_more, part_all}
 use Rattle.search.proofs.store.store_path.Goals as goal
 use Rattle.search.proofs.store.store_path.Goals.{After-sampled-action}
 
 -- what is left of the path at an iteration of the loop, and the action that its draw names
 named : (c : After-sampled-action) → c.sampled-action.result ≡ nth_of (node_at c.loop-i.nodes c.loop-i.end).unused (slice_index c.args.draws.now (c.args.at + c.loop-i.i))
 named c = c.sampled-action.ensures.0 ∙ ap (λ (m : Node). nth_of m.unused (slice_index c.args.draws.now (c.args.at + c.loop-i.i))) c.node_at-n.ensures
+
+pub loop-i-init : goal.loop-i-init
+loop-i-init c = part_first c.requires
 
 pub sampled-action-requires : goal.sampled-action-requires
 sampled-action-requires c =

@@ -11,8 +11,7 @@ use Rattle.refusal.specs.declared.Refusal.TheVariants.{UnknownWord}
 use Rattle.action.specs.Names.{found_of}
 use Rattle.action.specs.declared.names.Found.TheVariants as F
 use Rattle.crafty.specs.Actions.{name_test}
-use Rattle.crafty.proofs.actions.from_name.Statement.{statement}
-use Rattle.crafty.proofs.actions.from_name.Tie as tie
+use Rattle.crafty.proofs.actions.from_name.Goals as goal
 
 no_name : (word : List ℕ) → found_of word ≡ F.Nothing → Refused (UnknownWord 0) ≡ checked_of (name_test word)
 no_name word e = rw e
@@ -20,12 +19,8 @@ no_name word e = rw e
 a_name : (word : List ℕ) {n : ℕ} → found_of word ≡ F.Action n → Passed ≡ checked_of (name_test word)
 a_name word e = rw e
 
-pub from_name_spec : {M : Type 1} → statement M
-from_name_spec =
-    tie.close
-    (tie.spec
-    (λ c κs. tt)
-    (λ c. search rules)
-    (λ c. search rules)
-    (λ c. stopped (no_name _ (sym c.before.before.from-name.ensures ∙ c.enum_told.given.1)) refl)
-    (λ c. let e = sym c.before.before.before.from-name.ensures ∙ c.before.found.given.1 in onward (a_name _ e) refl (answered refl (rw e))))
+pub returns-in_default : goal.returns-in_default
+returns-in_default c = stopped (no_name _ (sym c.from_name-found.ensures ∙ c.in_default.is)) refl
+
+pub returns : goal.returns
+returns c = let e = sym c.from_name-found.ensures ∙ c.in-Action.is in onward (a_name _ e) refl (answered refl (rw e))

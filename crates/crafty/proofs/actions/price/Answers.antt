@@ -1,0 +1,13 @@
+-- `crafty::actions::price` meets its contract.
+-- Assumes nothing.
+use mathlib.Core.Path.{refl, ap, ◌∙◌}
+use borrow.Author.Rules.{rules}
+use Rattle.refusal.specs.laws.Judge.{stopped, onward, answered}
+use Rattle.crafty.specs.declared.actions.Priced.TheVariants.{Costs}
+use Rattle.crafty.proofs.actions.price.Goals as goal
+
+pub returns-in-Refused : goal.returns-in-Refused
+returns-in-Refused c = stopped c.check_action-known.ensures c.in-Refused.is
+
+pub returns : goal.returns
+returns c = onward c.check_action-known.ensures c.in_default.is (answered refl (ap Costs (c.charged.ensures ∙ rw c.attributes_of-row.ensures)))

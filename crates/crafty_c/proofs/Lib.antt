@@ -1,4 +1,0 @@
--- What several proofs share.
--- Assumes nothing.
-mod Types
-mod TypesSearch
