@@ -7,9 +7,8 @@ show_progress() {
     while IFS= read -r line; do
         name=${line#rt: }
         case $line in
-            "crate "*)
-                name=${line#crate }
-                echo "checked ${name%%:*}"
+            "rt: "*" proved")
+                echo "proved ${name%% *}"
                 ;;
             "rt: must-fail "*": refused, "*)
                 edits=$((edits + 1))

@@ -1,5 +1,6 @@
 // Standard input, read to its end. Where a read fails the input does not end: it is judged as a whole or not at all.
-ghost use Rattle.std.specs.Prelude.{◌≡◌, ◌≤◌, ◌<◌, ◌^◌, pos, negsuc, length, ForOk, MatchResult};
+ghost use Rattle.std.specs.Prelude.{◌≡◌, ◌≤◌, ◌<◌, ◌^◌, pos, negsuc, length, MatchResult};
+ghost use Rattle.std.specs.Result.{ForOk};
 ghost use Rattle.replay.specs.Input.{room, after_read, Ended};
 
 use refusal::SIZE_MOST;
