@@ -11,17 +11,17 @@ BEGIN {
     split("Refuses RefusesWhole RefusesInPart", total, " ")
     split("TellsFirst TellsFirstBeside TellsFirstBesides", outside, " ")
     # the fields by whose order places count
-    listing["setLimits"] = "Rattle·action_set.specs.Sets"
-    listing["contextLimits"] = "Rattle·craft_context.specs.Limits"
-    listing["builderLimits"] = "Rattle·craft_context.specs.Build"
-    listing["numberLimits"] = "Rattle·context_line.specs.Fields"
+    listing["set_limits"] = "Rattle.action_set.specs.Sets"
+    listing["context_limits"] = "Rattle.craft_context.specs.Limits"
+    listing["builder_limits"] = "Rattle.craft_context.specs.Build"
+    listing["number_limits"] = "Rattle.context_line.specs.Fields"
 }
 FILENAME ~ /imports$/ { module[$1, $2] = $3; next }
 FILENAME ~ /functions$/ { contract[$2] = $4; source[$2] = $5; next }
 FILENAME ~ /laws$/ { file[$2] = $1; type[$2] = $3; next }
 { check_entry($1, $2, $3) }
 
-function check_entry(entry, stated, numbers,   form, lent, title, place) {
+function check_entry(entry, stated, numbers,   form, lent, place) {
     form = contract_form(contract[entry])
     lent = lent_at
     lents = split(lent, place, " ")
@@ -30,12 +30,17 @@ function check_entry(entry, stated, numbers,   form, lent, title, place) {
         return
     }
     if (name_of(form) != stated) print entry ": its contract does not say " stated
-    title = entry
-    gsub(/::|_/, "-", title)
-    check_law(entry, "one-" title, one[lents + 1], form)
-    if ((form ~ /^r ≡ /) != (numbers == "")) print entry ": a statement has refusals, and an equation has none"
-    else if (numbers != "") check_refusals(entry, "total-" title, form, numbers, lent)
-    if (", " numbers "," ~ /, 1,/) check_place(entry, "outside-" title, form, told_by("total-" title))
+    check_law(entry, law_of(entry, "one"), one[lents + 1], form)
+    if ((form ~ /^result ≡ /) != (numbers == "")) print entry ": a statement has refusals, and an equation has none"
+    else if (numbers != "") check_refusals(entry, law_of(entry, "total"), form, numbers, lent)
+    if (", " numbers "," ~ /, 1,/) check_place(entry, law_of(entry, "outside"), form)
+}
+
+# A law has the name of its entry behind it. That of a method, in which a type's name stands, has dashes.
+function law_of(entry, law) {
+    if (entry !~ /::/) return law "_" entry
+    gsub(/::|_/, "-", entry)
+    return law "-" entry
 }
 
 # The kind of answer, or what is told of it, of a law of the refusals.
@@ -47,7 +52,7 @@ function told_by(law,   text) {
 }
 
 function name_of(form) {
-    sub(/^r ≡ /, "", form)
+    sub(/^result ≡ /, "", form)
     sub(/ .*/, "", form)
     return form
 }
@@ -69,7 +74,7 @@ function applied_form(text,   word, size, i, form, depth, place, seen, used, las
             if (given[word[i]] == 2) lent_at = lent_at " " place
         } else if (depth || form ~ /_$/) return ""
     }
-    return form ~ /^[A-Za-z]+( |$)/ && used == named && !depth ? form : ""
+    return form ~ /^[A-Za-z_]+( |$)/ && used == named && !depth ? form : ""
 }
 
 function forget() {
@@ -81,26 +86,27 @@ function forget() {
 
 # Nothing stands beside the one clause: no premise, and no second clause.
 function contract_form(text,   clause, at, start) {
-    clause = " ensures { λ r. ⌜ "
+    clause = " ensures { "
     at = index(text, clause)
     start = substr(text, 1, at - 1)
     text = substr(text, at + length(clause))
-    if (!at || start !~ /^[a-z_]+\([^()]*\) -> [A-Za-z]+$/ || !sub(/ ⌝ [}] [{] *$/, "", text)) return ""
+    if (!at || start !~ /^[a-z_]+\([^()]*\) -> [A-Za-z]+$/ || !sub(/ [}] [{] *$/, "", text)) return ""
     read_parameters(start)
     return stated_form(as_words(text))
 }
 
 # A statement ends in the answer and what was lent at exit, in the order of the parameters. An equation is of the answer, and lends nothing.
 function stated_form(text,   at, form) {
-    if (sub(/^r ≡ /, "", text)) {
+    if (sub(/^result ≡ /, "", text)) {
         form = applied_form(text)
-        return form == "" || exits != "" ? "" : "r ≡ " form
+        return form == "" || exits != "" ? "" : "result ≡ " form
     }
-    at = index(text " ", " r ")
-    return at && substr(text, at + 2) == exits ? applied_form(substr(text, 1, at - 1)) : ""
+    at = index(text " ", " result ")
+    return at && substr(text, at + 7) == exits ? applied_form(substr(text, 1, at - 1)) : ""
 }
 
-# How a statement names each parameter at entry, and those that can be written at exit.
+# How a statement names each parameter at entry, and those that can be written at exit: `x`, what is lent to be read `x.now`, and what is lent to be
+# written `x.old` and `x.new`.
 function read_parameters(start,   part, name, k) {
     forget()
     exits = ""
@@ -109,24 +115,17 @@ function read_parameters(start,   part, name, k) {
     for (k = 1; k <= named; k++) {
         name = part[k]
         sub(/ *:.*/, "", name)
-        given[(part[k] ~ /: &/ ? "entry@" : "") name] = part[k] ~ /: &mut / ? 2 : 1
+        given[name (part[k] ~ /: &mut / ? ".old" : part[k] ~ /: &/ ? ".now" : "")] = part[k] ~ /: &mut / ? 2 : 1
         place_of[name] = k
-        if (part[k] ~ /: &mut /) exits = exits " exit@" name
+        if (part[k] ~ /: &mut /) exits = exits " " name ".new"
     }
 }
 
-# A parameter becomes one word, also where it is read at entry or exit; a list, a record or a mode of parameters becomes them in brackets. The fields of a
-# record of several have the names of their parameters.
-function as_words(text,   read, part) {
-    gsub(/«/, "", text)
-    gsub(/»/, "", text)
-    gsub(/\(self \.0\)/, "self", text)
-    while (match(text, /\(now \([a-z_]+ \.(entry|exit)\)\)/)) {
-        read = substr(text, RSTART, RLENGTH)
-        split(read, part, /[( .)]+/)
-        text = substr(text, 1, RSTART - 1) part[4] "@" part[3] substr(text, RSTART + RLENGTH)
-    }
-    gsub(/\((record [{]|modeOf )/, "(", text)
+# A set is its number; a list, a record or a mode of parameters becomes them in brackets. The fields of a record of several have the names of their
+# parameters.
+function as_words(text,   part) {
+    gsub(/self\.0/, "self", text)
+    gsub(/\((record [{]|mode_of )/, "(", text)
     gsub(/; /, " ", text)
     while (match(text, / [a-z_]+ = [a-z_]+/)) {
         split(substr(text, RSTART + 1, RLENGTH - 1), part, " = ")
@@ -154,12 +153,12 @@ function check_refusals(entry, law, form, numbers, lent,   text, said, name, k) 
     text = opened(entry, law, total[lents + 1])
     if (text == "") return
     said = name = text
-    sub(/^[A-Za-z]+ \(/, "", said)
+    sub(/^[A-Za-z_]+ \(/, "", said)
     sub(/ ∷ \[\]\) .*/, "", said)
     gsub(/ ∷ /, ", ", said)
     if (said != numbers) print entry ": its law " law " has the refusals " said ", and the page " numbers
-    sub(/^[A-Za-z]+ \([^()]*\) /, "", text)
-    if (lents == 2) sub(/^\(6 ∷ 19 ∷ 20 ∷ \[\]\) \((asked|first)Tests [^()]*\) /, "", text)
+    sub(/^[A-Za-z_]+ \([^()]*\) /, "", text)
+    if (lents == 2) sub(/^\(6 ∷ 19 ∷ 20 ∷ \[\]\) \((asked|first)_tests [^()]*\) /, "", text)
     for (k = 1; k <= lents; k++) {
         name = text
         sub(/ .*/, "", name)
@@ -172,14 +171,15 @@ function check_refusals(entry, law, form, numbers, lent,   text, said, name, k) 
 
 # The law of the place has in between what is told, by the same kind as the law of the refusals, and fields of one of the four lists, whose variables the
 # proof holds to the statement's.
-function check_place(entry, law, form, kind,   text, fields) {
+function check_place(entry, law, form,   kind, text, fields) {
+    kind = told_by(law_of(entry, "total"))
     text = opened(entry, law, outside[lents + 1])
     if (text == "") return
-    if (!starts(text, lents == 2 ? kind " (" : "(" kind " .told) (") || !same_import(law, "total-" substr(law, 9), kind)) {
+    if (!starts(text, lents == 2 ? kind " (" : kind ".told (") || !same_import(law, law_of(entry, "total"), kind)) {
         print entry ": its law " law " is not of what is told by " kind
         return
     }
-    sub(/^(\([a-z]+ \.told\)|[A-Za-z]+) \(/, "", text)
+    sub(/^[a-z_]+(\.told)? \(/, "", text)
     fields = text
     sub(/ .*/, "", fields)
     if (!(fields in listing) || module[file[law], fields] != listing[fields]) print entry ": its law " law " is not of the fields of a record"
@@ -196,7 +196,7 @@ function same_import(law, other, name) {
 # What stands behind the demand in a law's type; empty, and a fault, where the law is none of it.
 function opened(entry, law, demand,   text) {
     text = past_variables(type[law])
-    if (index(text, demand " ") == 1 && module[file[law], demand] ~ /^Rattle·(refusal|search)\.specs\.Demands$/) return substr(text, length(demand) + 2)
+    if (index(text, demand " ") == 1 && module[file[law], demand] ~ /^Rattle\.(refusal|search)\.specs\.Demands$/) return substr(text, length(demand) + 2)
     print entry ": no law " law " by " demand
     return ""
 }
@@ -204,7 +204,7 @@ function opened(entry, law, demand,   text) {
 # The variables that a law binds, `(n : ℕ) (out : List ℕ) →`, are its `given`: a premise would be one that the statement does not name.
 function past_variables(text,   group, part, size, i) {
     forget()
-    while (match(text, /^\([A-Za-z ]+ : [^()]*\) /)) {
+    while (match(text, /^\([A-Za-z_ ]+ : [^()]*\) /)) {
         group = substr(text, 2, RLENGTH)
         text = substr(text, RLENGTH + 1)
         sub(/ :.*/, "", group)
@@ -220,7 +220,7 @@ function check_statement(entry, law, text, form,   name, equation) {
     name = name_of(form)
     if (!sub(/^\(/, "", text) || !sub(/\)$/, "", text)) text = ""
     equation = sub(/^λ \(r : [A-Za-z]+\)\. r ≡ /, "", text)
-    if ((equation ? "r ≡ " : "") applied_form(constants(text, file[law])) != form || !same_module(entry, law, name))
+    if ((equation ? "result ≡ " : "") applied_form(constants(text, file[law])) != form || !same_module(entry, law, name))
         print entry ": its law " law " is not of the statement " name " of any values"
 }
 

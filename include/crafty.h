@@ -1,7 +1,7 @@
-/* The crafting-rules engine for hosts in C: the functions of libcrafty_c.a, which `rt lib` in crates/crafty_c proves and
- * builds for x86-64 Linux. It keeps nothing between calls, allocates nothing, and any number of threads may call it.
- * Of C's library it needs memcpy and memset. A call takes up to some 100 KB of stack, crafty_search some
- * 160.
+/* The crafting-rules engine for hosts in C: the functions of libcrafty_c.a, which `rt lib` in crates/crafty_c proves
+ * and builds for x86-64 Linux. It keeps nothing between calls, allocates nothing, and any number of threads may call
+ * it. Of C's library it needs memcpy and memset. A call takes up to some 100 KB of stack, crafty_search some 160, as an
+ * older kit compiled it.
  *
  * What the host owes: a pointer and a length are a run of that many bytes, numbers or records, aligned as C aligns
  * them, that stays there during the call; what is lent to be written is used by nobody else meanwhile, and overlaps
