@@ -1,6 +1,6 @@
 // What an action costs in points, by the combo that it continues.
 ghost use Rattle.std.specs.Prelude.{◌≡◌};
-ghost use Rattle.action.specs.Actions.{StandardTouch as A-as-StandardTouch, AdvancedTouch as A-as-AdvancedTouch};
+ghost use Rattle.action.specs.Actions.{StandardTouch as StandardTouch_action, AdvancedTouch as AdvancedTouch_action};
 ghost use Rattle.action.specs.Price.{discounted_by, price_of, charged_of};
 
 use super::table::Amount;
@@ -19,7 +19,7 @@ pub enum Combo {
 const DISCOUNT_PRICE: u32 = 18;
 
 fn opens_standard_touch(combo: Combo) -> bool
-    ensures { result ≡ discounted_by A-as-StandardTouch combo }
+    ensures { result ≡ discounted_by StandardTouch_action combo }
 {
     match combo {
         Combo::Nothing => false,
@@ -31,7 +31,7 @@ fn opens_standard_touch(combo: Combo) -> bool
 }
 
 fn opens_advanced_touch(combo: Combo) -> bool
-    ensures { result ≡ discounted_by A-as-AdvancedTouch combo }
+    ensures { result ≡ discounted_by AdvancedTouch_action combo }
 {
     match combo {
         Combo::Nothing => false,

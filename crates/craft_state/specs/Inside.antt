@@ -6,7 +6,7 @@ use Rattle.action.specs.Limits.{amount_most, quiet_most}
 use Rattle.craft_context.specs.declared.context.CraftContext.{CraftContext}
 use Rattle.craft_context.specs.Limits.{durable, ContextIn}
 use Rattle.craft_state.specs.Limits.{step_least, durability_least, last_known, combo_agrees}
-use Rattle.craft_state.specs.Limits.{waste_not_most, waste_not_iIMost, manipulation_most, great_strides_most, innovation_most, veneration_most, muscle_memory_most}
+use Rattle.craft_state.specs.Limits.{waste_not_most, waste_not_ii_most, manipulation_most, great_strides_most, innovation_most, veneration_most, muscle_memory_most}
 use Rattle.craft_state.specs.declared.buffs.Buffs.{Buffs}
 use Rattle.craft_state.specs.declared.state.CraftState.{CraftState}
 
@@ -19,7 +19,7 @@ pub record DurabilityIn (d most : ℤ) : Type 0 where
 pub record BuffsIn (b : Buffs) : Type 0 where
   pub quiet : b.inner_quiet ≤ quiet_most
   pub waste_not : b.waste_not ≤ waste_not_most
-  pub waste_not_iI : b.waste_not_ii ≤ waste_not_iIMost
+  pub waste_not_ii : b.waste_not_ii ≤ waste_not_ii_most
   pub manipulation : b.manipulation ≤ manipulation_most
   pub great_strides : b.great_strides ≤ great_strides_most
   pub innovation : b.innovation ≤ innovation_most

@@ -33,8 +33,8 @@ durability_least = negsuc 18
 abbrev pub waste_not_most : ℕ
 waste_not_most = 4
 
-abbrev pub waste_not_iIMost : ℕ
-waste_not_iIMost = 8
+abbrev pub waste_not_ii_most : ℕ
+waste_not_ii_most = 8
 
 abbrev pub manipulation_most : ℕ
 manipulation_most = 8
@@ -55,7 +55,7 @@ abbrev pub buffs_inside : Buffs → Bool
 buffs_inside b =
     leb b.inner_quiet quiet_most
     && leb b.waste_not waste_not_most
-    && leb b.waste_not_ii waste_not_iIMost
+    && leb b.waste_not_ii waste_not_ii_most
     && leb b.manipulation manipulation_most
     && leb b.great_strides great_strides_most
     && leb b.innovation innovation_most

@@ -106,7 +106,7 @@ pub fn iterate(
     at: usize,
 ) -> Turned
     requires { Ready context options logs.now nodes.old count links.old × (at ≤ length draws.now) }
-    ensures { Turns nodes.entry.now count at (iterate_of context options logs.now draws.now (record { nodes = nodes.entry.now; count = count; at = at })) result nodes.exit.now links.new }
+    ensures { Turns nodes.old count at (iterate_of context options logs.now draws.now (record { nodes = nodes.old; count = count; at = at })) result nodes.new links.new }
 {
     let chosen = select(nodes, links, logs, context, options, count);
     let n = node_at(nodes, chosen.at);

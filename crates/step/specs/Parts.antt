@@ -15,7 +15,7 @@ use Rattle.craft_state.specs.declared.buffs.Buffs.{Buffs}
 use Rattle.craft_state.specs.declared.state.CraftState.{CraftState}
 use Rattle.craft_state.specs.declared.state.Perfection.{Perfection}
 use Rattle.craft_state.specs.declared.state.Perfection.TheVariants as P
-use Rattle.craft_state.specs.Limits.{waste_not_most, waste_not_iIMost, manipulation_most, great_strides_most, innovation_most, veneration_most, muscle_memory_most}
+use Rattle.craft_state.specs.Limits.{waste_not_most, waste_not_ii_most, manipulation_most, great_strides_most, innovation_most, veneration_most, muscle_memory_most}
 use Rattle.step.specs.Durability.{mended_of, masters_mends}
 
 -- ---- 1: step + 1 unless QuickInnovation
@@ -132,7 +132,7 @@ effect_of n b =
     record {
       inner_quiet = b.inner_quiet;
       waste_not = set_by n A.WasteNot waste_not_most (set_by n A.WasteNotII 0 b.waste_not);
-      waste_not_ii = set_by n A.WasteNot 0 (set_by n A.WasteNotII waste_not_iIMost b.waste_not_ii);
+      waste_not_ii = set_by n A.WasteNot 0 (set_by n A.WasteNotII waste_not_ii_most b.waste_not_ii);
       manipulation = set_by n A.Manipulation manipulation_most b.manipulation;
       great_strides = set_by n A.GreatStrides great_strides_most b.great_strides;
       innovation = set_by n A.Innovation innovation_most (set_by n A.QuickInnovation 1 b.innovation);

@@ -8,7 +8,7 @@ use Rattle.tree.specs.declared.node.Node.{Node}
 use Rattle.tree.specs.Node.{node_of, root_node, is_full, touched_of}
 use Rattle.tree.specs.Sound.{sound_at}
 
--- what `get_or` answers past the end
+-- what `slice_index_or` answers past the end
 abbrev pub no_node : Node
 no_node = root_node 0
 

@@ -1,7 +1,7 @@
 // The way down in a tree of few records: one pass over them finds the best child of each.
 ghost use Rattle.std.specs.Prelude.{◌≡◌, ◌<◌, ◌≤◌, ◌&&◌, length, nat_le};
 ghost use Rattle.tree.specs.Paths.{Solves};
-ghost use Rattle.tree.specs.inner.Few.{few, worth_aTable, entry_at, noted_of, Noting, child_noted, Blank, Bests, Rises, way_of};
+ghost use Rattle.tree.specs.inner.Few.{few, worth_a_table, entry_at, noted_of, Noting, child_noted, Blank, Bests, Rises, way_of};
 ghost use Rattle.tree.specs.inner.Sound.{SoundTree};
 
 use super::best::{Best, is_better};
@@ -18,7 +18,7 @@ const FEW: usize = 4096;
 const WORTH_A_TABLE: usize = 12;
 
 pub fn fits_table(count: usize) -> bool
-    ensures { result ≡ nat_le worth_aTable count && nat_le count few }
+    ensures { result ≡ nat_le worth_a_table count && nat_le count few }
 {
     (WORTH_A_TABLE <= count) & (count <= FEW)
 }

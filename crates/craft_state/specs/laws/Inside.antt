@@ -31,7 +31,7 @@ buffs_in b e =
     record {
       quiet = leb-true _ _ t1.0;
       waste_not = leb-true _ _ t1.1;
-      waste_not_iI = leb-true _ _ t2.1;
+      waste_not_ii = leb-true _ _ t2.1;
       manipulation = leb-true _ _ t3.1;
       great_strides = leb-true _ _ t4.1;
       innovation = leb-true _ _ t5.1;
@@ -44,7 +44,7 @@ in_buffs b h =
     rw (
       le-leb _ _ h.quiet,
       le-leb _ _ h.waste_not,
-      le-leb _ _ h.waste_not_iI,
+      le-leb _ _ h.waste_not_ii,
       le-leb _ _ h.manipulation,
       le-leb _ _ h.great_strides,
       le-leb _ _ h.innovation,

@@ -23,38 +23,19 @@ use Rattle.crafty.specs.declared.room.Written.TheVariants.{Length, Refused}
 
 -- ---- what is answered where the tests pass
 
-fits : (text out : List ℕ) → length text ≤ length out → Fits text out (Length (length text)) (over out 0 text)
+pub fits : (text out : List ℕ) → length text ≤ length out → Fits text out (Length (length text)) (over out 0 text)
 fits text out h = onward_room (rw (le-leb _ _ h)) refl (answered_room refl refl refl)
 
 short : (text out : List ℕ) → length out < length text → Fits text out (Refused (NoRoom (length text))) out
 short text out h = stopped_room (rw (lt-leb _ _ h)) refl refl
 
-written : (list out : List ℕ) → length list ≤ size_most → length list ≤ known_front list → length (list_text_of list) ≤ length out
+pub written : (list out : List ℕ) → length list ≤ size_most → length list ≤ known_front list → length (list_text_of list) ≤ length out
     → WritesList list out (Length (length (list_text_of list))) (over out 0 (list_text_of list))
 written list out size known room = onward_room (rw (le-leb _ _ size)) refl (onward_room (rw (all_front list ∙ le-leb _ _ known)) refl (fits (list_text_of list) out room))
 
-known_words : (text : List ℕ) {out : List ℕ} {r : Written} {after : List ℕ} → words_known text ≡ true → Fits (actions_in text) out r after
+pub known_words : (text : List ℕ) {out : List ℕ} {r : Written} {after : List ℕ} → words_known text ≡ true → Fits (actions_in text) out r after
     → ReadsList text out r after
 known_words text t w = onward_room (rw t) refl w
-
--- ---- the round trip, over what the two entries answer
-
--- for every list of known actions that is short enough, and every room that is long enough: the writer writes its text,
--- and from the bytes written the reader reads the list
-pub written_read : (list out : List ℕ) {r : Written} {after : List ℕ} (room : List ℕ) {s : Written} {later : List ℕ}
-    → length list ≤ size_most → length list ≤ known_front list → length (list_text_of list) ≤ length out → length list ≤ length room
-    → WritesList list out r after → ReadsList (take (length (list_text_of list)) after) room s later
-    → (r ≡ Length (length (list_text_of list))) × (s ≡ Length (length list)) × (later ≡ over room 0 list)
-written_read list out {r} {after} room {s} {later} size known enough place w q =
-    let o = one_outcome w (written list out size known enough) in
-    let put : Put out 0 (list_text_of list) (length (list_text_of list)) after = record { next = sym (zero-add _); same = o.1 } in
-    let text : take (length (list_text_of list)) after ≡ list_text_of list = take_put put enough in
-    let back = round list known in
-    let read : ReadsList (list_text_of list) room (Length (length list)) (over room 0 list) =
-    known_words (list_text_of list) back.1 (subst (λ (l : List ℕ). Fits l room (Length (length list)) (over room 0 list)) (sym back.0) (fits list room place))
-    in
-    let p = one_outcome (subst (λ (t : List ℕ). ReadsList t room s later) text q) read in
-    (o.0, p.0, p.1)
 
 -- ---- a text is read in one way
 

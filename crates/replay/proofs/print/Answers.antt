@@ -12,5 +12,5 @@ slice_bounds-out-end g c =
 pub slice_bounds-write_all-end : goal.slice_bounds-write_all-end
 slice_bounds-write_all-end g c =
     let within : c.in-Length.k ≤ length c.replay_output-written.new.out =
-            omega (arith, printed_within _ c.replay_output-written.ensures (omega arith) c.in-Length.is, c.replay_output-written.auto.out) in
+    omega (arith, printed_within _ c.replay_output-written.ensures (omega arith) c.in-Length.is, c.replay_output-written.auto.out) in
     sym (length-take-le _ _ within)

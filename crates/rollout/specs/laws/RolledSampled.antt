@@ -26,7 +26,8 @@ use Rattle.moves.specs.Moves.{moves_of}
 use Rattle.score.specs.Bounds.{ScoreIsBounded}
 use Rattle.score.specs.Result.{judged_by}
 use Rattle.score.specs.declared.result.CraftResult.{CraftResult}
-use Rattle.score.specs.laws.Bounds.{Timely, legal_timely, judged_bounded}
+use Rattle.score.specs.laws.Bounds.{Timely, legal_timely}
+use Rattle.score.proofs.Bounds.{judged_bounded}
 use Rattle.rollout.specs.declared.rollout.Rolled.{Rolled}
 use Rattle.rollout.specs.declared.rollout.Rolled.TheVariants as L
 use Rattle.rollout.specs.Rollout.{drawn_state, strict_moves, rolled_from, sampled_of}

@@ -36,12 +36,12 @@ pub greatest_bits : to_bits binary32 greatest_score ≡ 0x3f7f_f326
 unfolding to_bits of_int add sub mul div lt
 greatest_bits = refl
 
-greatest_finite : T (finite greatest_score)
+pub greatest_finite : T (finite greatest_score)
 unfolding of_int add sub mul div lt
 greatest_finite = tt
 
 -- THE number of the theorem: what the bonuses come to is below 1
-greatest_below_one : T (lt greatest_score one)
+pub greatest_below_one : T (lt greatest_score one)
 unfolding of_int add sub mul div lt
 greatest_below_one = tt
 
@@ -53,7 +53,7 @@ inf_below_greatest : T (le (inf true) greatest_score)
 unfolding of_int add sub mul div lt le
 inf_below_greatest = tt
 
-inf_below_one : T (lt (inf true) one)
+pub inf_below_one : T (lt (inf true) one)
 unfolding of_int lt
 inf_below_one = tt
 
@@ -89,12 +89,6 @@ module _ (context : CraftContext) (state : CraftState) (given : Scorable context
           of_either context state (λ x. T (le x greatest_score))
           (le_through _ full_steps greatest_score (within_finite steps) (high_finite steps) greatest_finite steps.to steps_below_greatest)
           (weighed_within context state given top some false absurd false absurd).to
-
-  pub score_below_one : T (lt (score_of context state) one)
-  unfolding of_int
-  score_below_one =
-      by_steps context state given given.started (λ x. T (lt x one)) inf_below_one
-      (λ some. lt_after (score_of context state) greatest_score one (score_finite context state given top some) greatest_finite tt score_most greatest_below_one)
 
   module _ (some : 0 < context.step_max) where
     score_from : (lo : Float) (finished timely : Bool) → (T finished → context.progress_target ≤ state.progress)
@@ -152,23 +146,3 @@ module _ (c : CraftContext) (top : c.step_max ≤ step_most) (s : CraftState) (t
       at_most : (quick : Bool) → s.step < c.step_max → cond quick s.step (s.step + 1) ≤ c.step_max
       at_most true early = omega arith
       at_most false early = omega arith
-
-  pub score_bounded : ScoreBounds c (score_of c s)
-  score_bounded =
-      let rests = scorable c s t.inside t.byte in
-      record {
-        below = score_below_one c s rests top;
-        least = λ some. score_least c s rests top some (t.early some);
-      }
-
-  pub judged_bounded : (moves : ℕ) → ScoreIsBounded c (judged_by c s moves)
-  unfolding judged_by
-  judged_bounded moves = by (nat_le c.progress_target s.progress) (int_le s.durability (pos 0)) (nat_le c.step_max s.step) (moves == 0)
-    where
-      by : (a d b m : Bool)
-          → ScoreIsBounded c (cond a (R.Finished (score_of c s)) (cond d R.DurabilityFailure (cond b R.MaxStepsFailure (cond m R.InvalidActionFailure R.Continuing))))
-      by true d b m = score_bounded
-      by false true b m = tt
-      by false false true m = tt
-      by false false false true = tt
-      by false false false false = tt

@@ -19,7 +19,8 @@ use Rattle.moves.specs.Moves.{moves_by}
 use Rattle.score.specs.Bounds.{greatest_score, ScoreIsBounded}
 use Rattle.score.specs.Result.{judged_by, result_by, scores_in}
 use Rattle.score.specs.Score.{weighed_of, score_of}
-use Rattle.score.specs.laws.Bounds.{Timely, start_timely, legal_timely, judged_bounded}
+use Rattle.score.specs.laws.Bounds.{Timely, start_timely, legal_timely}
+use Rattle.score.proofs.Bounds.{judged_bounded}
 use Rattle.simulator.specs.declared.replay.Replay.{Replay}
 use Rattle.simulator.specs.Replay.{goes_on, stop_by, slip_by, replay_from, replay_by, replay_of}
 

@@ -67,8 +67,8 @@ quiet_at_most c s n Nothing h = h
 
 -- ---- durability
 
-pub wear_at_most : (cost : ℕ) (perfection : Bool) (waste_not waste_not_iI : ℕ) → wear_of cost perfection waste_not waste_not_iI ≤ cost
-wear_at_most cost perfection waste_not waste_not_iI = go perfection (ltb 0 waste_not || ltb 0 waste_not_iI)
+pub wear_at_most : (cost : ℕ) (perfection : Bool) (waste_not waste_not_ii : ℕ) → wear_of cost perfection waste_not waste_not_ii ≤ cost
+wear_at_most cost perfection waste_not waste_not_ii = go perfection (ltb 0 waste_not || ltb 0 waste_not_ii)
   where
     go : (t u : Bool) → cond t 0 (cond u (cost / 2) cost) ≤ cost
     go true u = omega arith
@@ -122,7 +122,7 @@ ticked_in b h =
     record {
       quiet = h.quiet;
       waste_not = le_trans (sub-le _ 1) h.waste_not;
-      waste_not_iI = le_trans (sub-le _ 1) h.waste_not_iI;
+      waste_not_ii = le_trans (sub-le _ 1) h.waste_not_ii;
       manipulation = le_trans (sub-le _ 1) h.manipulation;
       great_strides = le_trans (sub-le _ 1) h.great_strides;
       innovation = le_trans (sub-le _ 1) h.innovation;
@@ -136,7 +136,7 @@ effect_in n b h =
     record {
       quiet = h.quiet;
       waste_not = cond_le (eqb n A.WasteNot) (le_refl _) (cond_le (eqb n A.WasteNotII) (omega arith) h.waste_not);
-      waste_not_iI = cond_le (eqb n A.WasteNot) (omega arith) (cond_le (eqb n A.WasteNotII) (le_refl _) h.waste_not_iI);
+      waste_not_ii = cond_le (eqb n A.WasteNot) (omega arith) (cond_le (eqb n A.WasteNotII) (le_refl _) h.waste_not_ii);
       manipulation = cond_le (eqb n A.Manipulation) (le_refl _) h.manipulation;
       great_strides = cond_le (eqb n A.GreatStrides) (le_refl _) h.great_strides;
       innovation = cond_le (eqb n A.Innovation) (le_refl _) (cond_le (eqb n A.QuickInnovation) (omega arith) h.innovation);

@@ -94,7 +94,7 @@ module _ (c : CraftContext) (s : CraftState) (n : ℕ) (row : Attributes) where
         record {
           quiet = quiet_at_most c progressed n row.quality_efficiency b.quiet;
           waste_not = b.waste_not;
-          waste_not_iI = b.waste_not_iI;
+          waste_not_ii = b.waste_not_ii;
           manipulation = b.manipulation;
           great_strides = used_up_at_most row.quality_efficiency b.great_strides;
           innovation = b.innovation;

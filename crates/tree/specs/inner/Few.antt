@@ -12,8 +12,8 @@ abbrev pub few : ℕ
 few = 4096
 
 -- and as many as are worth clearing it for: no answer depends on it
-abbrev pub worth_aTable : ℕ
-worth_aTable = 12
+abbrev pub worth_a_table : ℕ
+worth_a_table = 12
 
 -- the best child of record p; 0 where there is none
 abbrev pub entry_at : List ℕ → ℕ → ℕ

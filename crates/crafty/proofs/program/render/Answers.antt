@@ -47,12 +47,11 @@ returns-then-end-input c =
     onward_room c.check_size-size.ensures c.in_default.is (stopped_room (end_none input (omega (arith, ends (goal.at.returns-then-end-input c).After-line_end-end, c.if-end-input.true))) refl refl)
 
 pub render_words-requires : goal.render_words-requires
-render_words-requires c =
-    (
-      line_inside (line_of (goal.at.render_words-requires c).After-line_end-end) (subst (Reading (goal.at.render_words-requires c).After-line_end-end) c.in-Context.is c.read-read.ensures),
-      omega (arith, sized (goal.at.render_words-requires c).After-line_end-end, c.if-end-input.false, length-drop (c.line_end-end.result + 1) (start_of (goal.at.render_words-requires c).After-line_end-end).args.input.now),
-      (start_of (goal.at.render_words-requires c).After-line_end-end).requires,
-    )
+render_words-requires c = (
+  line_inside (line_of (goal.at.render_words-requires c).After-line_end-end) (subst (Reading (goal.at.render_words-requires c).After-line_end-end) c.in-Context.is c.read-read.ensures),
+  omega (arith, sized (goal.at.render_words-requires c).After-line_end-end, c.if-end-input.false, length-drop (c.line_end-end.result + 1) (start_of (goal.at.render_words-requires c).After-line_end-end).args.input.now),
+  (start_of (goal.at.render_words-requires c).After-line_end-end).requires,
+)
 
 pub returns-in-Refused-read : goal.returns-in-Refused-read
 returns-in-Refused-read c =

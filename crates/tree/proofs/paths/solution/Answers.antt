@@ -2,7 +2,7 @@
 -- Assumes nothing.
 use Rattle.std.proofs.Common.{◌≤◌, nat_le, sym, ◌∙◌, length, leb-true}
 use Rattle.laws.specs.laws.Tests.{both}
-use Rattle.tree.specs.inner.Few.{few, worth_aTable}
+use Rattle.tree.specs.inner.Few.{few, worth_a_table}
 use Rattle.tree.specs.laws.Tree.{tree_of}
 use Rattle.tree.specs.laws.Paths.{solution_unsound, solution_short, solution_solved}
 use Rattle.tree.proofs.paths.solution.Goals as goal
@@ -13,7 +13,7 @@ returns-then-not-sound c = solution_unsound _ _ _ (sym c.is_sound-sound.ensures 
 pub solve_few-requires : goal.solve_few-requires
 solve_few-requires c = (
   tree_of (sym c.is_sound-sound.ensures ∙ c.if-not-sound.false),
-  leb-true c.args.count few (both (nat_le worth_aTable c.args.count) (nat_le c.args.count few) (sym c.fits_table.ensures ∙ c.if-fits_table.true)).1,
+  leb-true c.args.count few (both (nat_le worth_a_table c.args.count) (nat_le c.args.count few) (sym c.fits_table.ensures ∙ c.if-fits_table.true)).1,
 )
 
 pub solution_len-needed-requires : goal.solution_len-needed-requires

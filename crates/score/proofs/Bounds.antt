@@ -1,0 +1,59 @@
+-- E10: a score is below 1, of a single state and of what a craft came to: what rests on the number that the bonuses come to.
+-- Assumes nothing.
+use Rattle.std.specs.Prelude.{◌≡◌, ℕ, ◌+◌, ◌<◌, ◌≤◌, Bool, true, false, cond, T, pos, negsuc, ◌==◌, int_le, nat_le, refl, Float}
+use Rattle.std.proofs.Common.{arith, lit≤, ne_eqb}
+use Rattle.std.specs.Float.{inf, binary32}
+use Rattle.std.specs.Float.Ieee.{of_int, to_bits, neg, add, sub, mul, div, lt, le}
+use Rattle.std.specs.Float.Ieee.Scale.{finite}
+use Rattle.laws.specs.Bits.{has}
+use Rattle.laws.specs.Floats.{hundredths, one, minus_one}
+use Rattle.laws.specs.laws.Order.{le_through, lt_after}
+use Rattle.laws.proofs.Within.{low_finite, high_finite, within_finite}
+use Rattle.action.specs.Actions as A
+use Rattle.action.specs.Bounds.{Rows, RowsIn}
+use Rattle.craft_context.specs.declared.context.CraftContext.{CraftContext}
+use Rattle.craft_context.specs.Limits.{ContextIn}
+use Rattle.craft_state.specs.declared.state.CraftState.{CraftState}
+use Rattle.craft_state.specs.Limits.{step_most}
+use Rattle.craft_state.specs.Inside.{CraftIn}
+use Rattle.craft_state.specs.laws.Inside.{start_in}
+use Rattle.craft_state.specs.Start.{start_of}
+use Rattle.step.specs.Step.{execute_by}
+use Rattle.step.specs.laws.Step.{execute_step}
+use Rattle.moves.specs.declared.mode.Mode.{Mode}
+use Rattle.moves.specs.Moves.{moves_by}
+use Rattle.moves.specs.laws.Moves.{legal_known, legal_playable, legal_keeps}
+use Rattle.score.specs.Score.{weigh, score_of}
+use Rattle.score.specs.Result.{judged_by}
+use Rattle.score.specs.Bounds.{full_steps, greatest_score, ScoreBounds, ScoreIsBounded}
+use Rattle.score.specs.declared.result.CraftResult.TheVariants as R
+use Rattle.score.specs.laws.Score.{least_four, least_steps, of_either, steps_within, weighed_within, score_finite, by_steps, Scorable, scorable}
+use Rattle.score.specs.laws.Bounds.{greatest_finite, greatest_below_one, inf_below_one, score_most, score_least, Timely}
+
+module _ (context : CraftContext) (state : CraftState) (given : Scorable context state) (top : context.step_max ≤ step_most) where
+  pub score_below_one : T (lt (score_of context state) one)
+  unfolding of_int
+  score_below_one =
+      by_steps context state given given.started (λ x. T (lt x one)) inf_below_one
+      (λ some. lt_after (score_of context state) greatest_score one (score_finite context state given top some) greatest_finite tt (score_most context state given top) greatest_below_one)
+
+module _ (c : CraftContext) (top : c.step_max ≤ step_most) (s : CraftState) (t : Timely c s) where
+  pub score_bounded : ScoreBounds c (score_of c s)
+  score_bounded =
+      let rests = scorable c s t.inside t.byte in
+      record {
+        below = score_below_one c s rests top;
+        least = λ some. score_least c s rests top some (t.early some);
+      }
+
+  pub judged_bounded : (moves : ℕ) → ScoreIsBounded c (judged_by c s moves)
+  unfolding judged_by
+  judged_bounded moves = by (nat_le c.progress_target s.progress) (int_le s.durability (pos 0)) (nat_le c.step_max s.step) (moves == 0)
+    where
+      by : (a d b m : Bool)
+          → ScoreIsBounded c (cond a (R.Finished (score_of c s)) (cond d R.DurabilityFailure (cond b R.MaxStepsFailure (cond m R.InvalidActionFailure R.Continuing))))
+      by true d b m = score_bounded
+      by false true b m = tt
+      by false false true m = tt
+      by false false false true = tt
+      by false false false false = tt
