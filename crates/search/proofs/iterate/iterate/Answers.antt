@@ -36,11 +36,15 @@ returns-then-not-passed c =
     plan_refused c.args.context c.args.options c.args.logs.now c.args.draws.now c.args.nodes.now c.args.count c.args.at c.requires.0 c.requires.1 c.select-chosen.ensures
     (plan_is (goal.at.returns-then-not-passed c).After-plan_at-plan) (sym c.is_passed-passed.ensures ∙ c.if-not-passed.true) c.stopped.ensures
 
+-- a plan that passed is one to carry out:
+-- its path may be stored
 pub carry_out-requires : goal.carry_out-requires
 carry_out-requires c =
     plan_storing c.args.context c.args.options c.args.logs.now c.args.draws.now c.args.nodes.now c.args.count c.args.at c.requires.0 c.requires.1 c.select-chosen.ensures
     (plan_is (goal.at.carry_out-requires c).After-plan_at-plan) (sym c.is_passed-passed.ensures ∙ c.if-not-passed.false)
 
+-- and what was carried out and counted
+-- is the definition's iteration
 pub returns : goal.returns
 returns c =
     plan_turns c.args.context c.args.options c.args.logs.now c.args.draws.now c.args.nodes.now c.args.count c.args.at c.requires.0 c.requires.1 c.select-chosen.ensures
