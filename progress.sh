@@ -2,20 +2,17 @@
 
 # show_progress: of what rt prints, a line for each crate that it has proved and each edit that it saw refused.
 show_progress() {
-    local edits=0 every line name
+    local edits=0 every line
     every=$(find "$root/crates" -path '*/must-fail/*.edit' | wc -l)
     while IFS= read -r line; do
-        name=${line#rt: }
-        case $line in
-            "rt: "*" proved")
-                echo "proved ${name%% *}"
-                ;;
-            "rt: must-fail "*": refused, "*)
-                edits=$((edits + 1))
-                name=${name#must-fail }
-                echo "refused $edits of $every edits: ${name%%:*}"
-                ;;
-        esac
+        if [[ $line =~ ^rt:\ ([a-z0-9_]+)\ proved$ ]]; then
+            echo "proved ${BASH_REMATCH[1]}"
+        elif [[ $line =~ ^crate\ ([a-z0-9_]+): ]]; then
+            echo "checked ${BASH_REMATCH[1]}"
+        elif [[ $line =~ ^rt:\ must-fail\ ([^:]+):\ refused, ]]; then
+            edits=$((edits + 1))
+            echo "refused $edits of $every edits: ${BASH_REMATCH[1]}"
+        fi
     done >&2
 }
 
