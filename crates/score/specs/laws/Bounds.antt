@@ -58,14 +58,14 @@ unfolding of_int lt
 inf_below_one = tt
 
 -- at most both, the steps alone and the parts weighed, at their least
-abbrev Floor : Float → Bool → Bool → Type 0
+abbrev pub Floor : Float → Bool → Bool → Type 0
 Floor lo finished timely = T (finite lo) × T (le lo (least_steps timely)) × T (le lo (weigh (least_four finished) (least_steps timely)))
 
-floor_one : Floor minus_one false true
+pub floor_one : Floor minus_one false true
 unfolding of_int add sub mul div le
 floor_one = (tt, tt, tt)
 
-floor_three_quarters : Floor (neg (hundredths 75)) true true
+pub floor_three_quarters : Floor (neg (hundredths 75)) true true
 unfolding of_int neg add sub mul div le
 floor_three_quarters = (tt, tt, tt)
 
@@ -73,7 +73,7 @@ floor_254 : Floor (of_int binary32 (negsuc 253)) false false
 unfolding of_int add sub mul div le
 floor_254 = (tt, tt, tt)
 
-floor_weighed : T (finite (neg (hundredths 1365))) × T (le (neg (hundredths 1365)) (weigh (least_four false) (least_steps false)))
+pub floor_weighed : T (finite (neg (hundredths 1365))) × T (le (neg (hundredths 1365)) (weigh (least_four false) (least_steps false)))
 unfolding of_int neg add sub mul div le
 floor_weighed = (tt, tt)
 
@@ -91,7 +91,7 @@ module _ (context : CraftContext) (state : CraftState) (given : Scorable context
           (weighed_within context state given top some false absurd false absurd).to
 
   module _ (some : 0 < context.step_max) where
-    score_from : (lo : Float) (finished timely : Bool) → (T finished → context.progress_target ≤ state.progress)
+    pub score_from : (lo : Float) (finished timely : Bool) → (T finished → context.progress_target ≤ state.progress)
         → (T timely → state.step ≤ context.step_max) → Floor lo finished timely → T (le lo (score_of context state))
     score_from lo finished timely done early floor =
         let steps = steps_within context state given top some timely early in
@@ -100,24 +100,9 @@ module _ (context : CraftContext) (state : CraftState) (given : Scorable context
         (le_through lo _ _ floor.0 (low_finite steps) (within_finite steps) floor.1 steps.from)
         (le_through lo _ _ floor.0 (low_finite weighed) (within_finite weighed) floor.2 weighed.from)
 
-    module _ (early : state.step ≤ context.step_max) where
-      pub score_least : T (le minus_one (score_of context state))
-      score_least = score_from minus_one false true absurd (λ t. early) floor_one
-
-      -- -0.75 where the craft is finished
-      pub finished_least : context.progress_target ≤ state.progress → T (le (neg (hundredths 75)) (score_of context state))
-      finished_least done = score_from (neg (hundredths 75)) true true (λ t. done) (λ t. early) floor_three_quarters
-
-    -- past step_max -254, and -13.65 where there is a quality target
+    -- past step_max at least -254
     pub score_lowest : T (le (of_int binary32 (negsuc 253)) (score_of context state))
     score_lowest = score_from (of_int binary32 (negsuc 253)) false false absurd absurd floor_254
-
-    pub weighed_lowest : 0 < context.quality_target → T (le (neg (hundredths 1365)) (score_of context state))
-    unfolding score_of
-    weighed_lowest aimed =
-        let w = weighed_within context state given top some false absurd false absurd in
-        rw (ne_eqb context.quality_target 0 (λ e. omega arith))
-        (le_through (neg (hundredths 1365)) _ _ floor_weighed.0 (low_finite w) (within_finite w) floor_weighed.1 w.from)
 
 -- ---- a state that a craft came to: what the bounds rest on, and every legal action keeps
 

@@ -1,6 +1,6 @@
 -- `score::result::judge` meets its contract: each way out answers what its test gives, where all tests before it failed.
 -- Assumes nothing.
-use Rattle.std.proofs.Common.{◌≡◌, ℤ, pos, sym, ap, ◌∙◌, w8, to_z, of_z, eq-eqb, ne_eqb, le-leb}
+use Rattle.std.proofs.Common.{◌≡◌, ℤ, pos, sym, ap, ◌∙◌, w8, to_z, of_z, arith, eq-eqb, ne_eqb, le-leb}
 use lib.Signed.{le_z}
 use borrow.Author.Tests.{lt-leb}
 use Rattle.craft_state.specs.laws.Inside.{durability_read}
@@ -28,7 +28,7 @@ pub returns-then-is_late : goal.returns-then-is_late
 unfolding judged_by
 returns-then-is_late c =
     let read = as_read (goal.at.returns-then-is_late c).Start in
-    (simp (lt-leb _ _ c.if-state-context.false, read, c.if-is_worn.false, le-leb _ _ c.if-is_late.true), tt)
+    (grind (arith, read), tt)
 
 pub returns-then-moves-eq0 : goal.returns-then-moves-eq0
 unfolding judged_by
