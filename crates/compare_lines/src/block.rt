@@ -1,5 +1,5 @@
 // The input of the programs, block by block.
-ghost use Rattle.std.specs.Prelude.{◌<◌, ◌≤◌, length, take, IfOk};
+ghost use Rattle.std.specs.Prelude.{ℕ, ◌<◌, ◌≤◌, length, take, IfOk, IfErr};
 ghost use Rattle.std.specs.Io.KnownBytes.{Consumes, IsAtEnd};
 
 use std::io;
@@ -9,6 +9,8 @@ use std::io::Read;
 pub fn fill<R: Read>(input: &mut R, block: &mut [u8]) -> io::Result<usize>
     ensures fits { IfOk result (λ n. n ≤ length block.new) }
     ensures bytes { IfOk result (λ n. Consumes (R.remaining input.old) (R.remaining input.new) (take n block.new)) }
+    // What was read before a read that failed stands at the front of the block.
+    ensures failed { IfErr result (λ _. (k : ℕ) × (k ≤ length block.new) × Consumes (R.remaining input.old) (R.remaining input.new) (take k block.new)) }
     ensures end { IfOk result (λ n. n < length block.new → IsAtEnd (R.remaining input.new)) }
 {
     let mut got = 0;
