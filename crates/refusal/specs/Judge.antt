@@ -1,12 +1,10 @@
 -- Document 01, 'What comes back on refusal', below the table: an entry's answer, from its tests in order. The first that fails refuses, and changes
 -- nothing that was lent. Rows 6 and 13 of the table, which belong to no one crate.
 -- Assumes nothing.
-use Rattle.std.specs.Prelude.{◌≡◌, refl, Bool, cond, List, [], ◌∷◌, ℕ, leb}
+use Rattle.std.specs.Prelude.{◌≡◌, refl, Bool, cond, List, [], ◌∷◌, ℕ, leb, Result, Ok, Err}
 use Rattle.refusal.specs.declared.Refusal.{Refusal}
 use Rattle.refusal.specs.declared.Refusal.TheVariants.{NoRoom, TooLong}
 use Rattle.refusal.specs.declared.Report.{Report}
-use Rattle.refusal.specs.declared.Checked.{Checked}
-use Rattle.refusal.specs.declared.Checked.TheVariants.{Passed, Refused}
 use Rattle.refusal.specs.Report.{report_of, success}
 
 -- a test, and what is refused where it fails
@@ -19,11 +17,17 @@ judged refused answer [] = answer
 judged refused answer (t ∷ rest) = cond t.passed (judged refused answer rest) (refused t.otherwise)
 
 -- what tests answer by themselves: one, and several in their order
+abbrev pub Checked : Type 0
+Checked = Result Unit Refusal
+
+abbrev pub pass : Checked
+pass = Ok tt
+
 abbrev pub checked_of : Test → Checked
-checked_of t = cond t.passed Passed (Refused t.otherwise)
+checked_of t = cond t.passed pass (Err t.otherwise)
 
 abbrev pub checks_of : List Test → Checked
-checks_of tests = judged Refused Passed tests
+checks_of tests = judged Err pass tests
 
 -- refusal 6
 abbrev pub room_test : ℕ → ℕ → Test
@@ -52,13 +56,13 @@ pub record Writes {A : Type 0} (kind : Kind A) (tests : List Test) (answer : A) 
   pub says : Says kind tests answer r
   pub room : after ≡ judged (λ x. out) written tests
 
--- a function that only tests answers `Passed`, which is success, or the refusal
-abbrev checked_told : Checked → Report
-checked_told Passed = success
-checked_told (Refused x) = report_of x
+-- a function that answers a value, which is success, or the refusal; and one that only tests
+abbrev answer_told : {T : Type 0} → Result T Refusal → Report
+answer_told (Ok v) = success
+answer_told (Err x) = report_of x
 
-abbrev pub checking : Kind Checked
-checking = record { told = checked_told; refused = Refused; refusing = λ x. refl }
+abbrev pub answering : {T : Type 0} → Kind (Result T Refusal)
+answering = record { told = answer_told; refused = Err; refusing = λ x. refl }
 
 abbrev pub Checks : List Test → Checked → Type 0
-Checks tests r = Says checking tests Passed r
+Checks tests r = Says answering tests pass r

@@ -1,17 +1,16 @@
 -- Document 01, 'What comes back on refusal': the table's numbers, and what is also returned. Document 02, E1: "1 now has a place"; E7: "19 draws used up,
 -- 20 draw not below the size, 21" for a search whose logarithms or options are outside their limits.
 -- Assumes nothing.
-use Rattle.std.specs.Prelude.{ℕ}
+use Rattle.std.specs.Prelude.{ℕ, None, Some}
 use Rattle.refusal.specs.declared.Refusal.{Refusal}
 use Rattle.refusal.specs.declared.Refusal.TheVariants as R
-use Rattle.refusal.specs.declared.Also.TheVariants.{Nothing, Value}
 use Rattle.refusal.specs.declared.Report.{Report}
 
 abbrev bare : ℕ → Report
-bare number = record { 0 = number; 1 = Nothing }
+bare number = record { 0 = number; 1 = None }
 
 abbrev with : ℕ → ℕ → Report
-with number value = record { 0 = number; 1 = Value value }
+with number value = record { 0 = number; 1 = Some value }
 
 -- no refusal
 abbrev pub success : Report

@@ -6,9 +6,7 @@ ghost use Rattle.std.specs.Prelude.{◌≡◌};
 ghost use Rattle.refusal.specs.Report.{report_of};
 ghost use Rattle.refusal.specs.Judge.{checked_of, room_test, size_test};
 
-use Also::{Nothing, Value};
-
-#[derive(Clone, Copy)]
+#[derive(Clone, Copy, Debug, PartialEq, Eq)]
 pub enum Refusal {
     // A context, set or builder number is outside its limit: the first such field's place, 0 for a set.
     OutsideLimits(usize),
@@ -37,68 +35,54 @@ pub enum Refusal {
     BadSearch,
 }
 
-// What also comes back with a refusal.
-#[derive(Clone, Copy)]
-pub enum Also {
-    Nothing,
-    Value(usize),
-}
-
 // Its number, 0 for no refusal, and what also comes back.
-#[derive(Clone, Copy)]
-pub struct Report(pub u8, pub Also);
+#[derive(Clone, Copy, Debug, PartialEq, Eq)]
+pub struct Report(pub u8, pub Option<usize>);
 
 impl Refusal {
     pub fn reported(self) -> Report
         ensures { result ≡ report_of self }
     {
         match self {
-            Refusal::OutsideLimits(place) => Report(1, Value(place)),
-            Refusal::StateOutOfRange => Report(2, Nothing),
-            Refusal::UnknownAction(place) => Report(3, Value(place)),
-            Refusal::IllegalAction => Report(4, Nothing),
-            Refusal::UnknownWord(offset) => Report(5, Value(offset)),
-            Refusal::NoRoom(needed) => Report(6, Value(needed)),
-            Refusal::UnsoundTree => Report(7, Nothing),
-            Refusal::UnknownNode => Report(8, Nothing),
-            Refusal::NotAbove => Report(9, Nothing),
-            Refusal::BadScore => Report(10, Nothing),
-            Refusal::VisitsFull => Report(11, Nothing),
-            Refusal::MalformedLine => Report(12, Nothing),
-            Refusal::TooLong => Report(13, Nothing),
-            Refusal::NoDraw => Report(19, Nothing),
-            Refusal::DrawTooHigh => Report(20, Nothing),
-            Refusal::BadSearch => Report(21, Nothing),
+            Refusal::OutsideLimits(place) => Report(1, Some(place)),
+            Refusal::StateOutOfRange => Report(2, None),
+            Refusal::UnknownAction(place) => Report(3, Some(place)),
+            Refusal::IllegalAction => Report(4, None),
+            Refusal::UnknownWord(offset) => Report(5, Some(offset)),
+            Refusal::NoRoom(needed) => Report(6, Some(needed)),
+            Refusal::UnsoundTree => Report(7, None),
+            Refusal::UnknownNode => Report(8, None),
+            Refusal::NotAbove => Report(9, None),
+            Refusal::BadScore => Report(10, None),
+            Refusal::VisitsFull => Report(11, None),
+            Refusal::MalformedLine => Report(12, None),
+            Refusal::TooLong => Report(13, None),
+            Refusal::NoDraw => Report(19, None),
+            Refusal::DrawTooHigh => Report(20, None),
+            Refusal::BadSearch => Report(21, None),
         }
     }
 }
 
-// What one test answers.
-#[derive(Clone, Copy)]
-pub enum Checked {
-    Passed,
-    Refused(Refusal),
-}
-
 // Refusal 6: lent room that is shorter than what is to be written.
-pub fn check_room(room: usize, needed: usize) -> Checked
+pub fn check_room(room: usize, needed: usize) -> Result<(), Refusal>
     ensures { result ≡ checked_of (room_test room needed) }
 {
     if needed <= room {
-        return Checked::Passed;
+        return Ok(());
     }
-    Checked::Refused(Refusal::NoRoom(needed))
+    Err(Refusal::NoRoom(needed))
 }
 
 // In bytes, of a program's input and of a list to write as text or to time.
 pub const SIZE_MOST: usize = 65536;
 
 // Refusal 13: one of these is longer than it may be.
-pub fn check_size(bytes: usize) -> Checked
+pub fn check_size(bytes: usize) -> Result<(), Refusal>
     ensures { result ≡ checked_of (size_test bytes) }
 {
     if bytes <= SIZE_MOST {
-        return Checked::Passed;
+        return Ok(());
     }
-    Checked::Refused(Refusal::TooLong)
+    Err(Refusal::TooLong)
 }

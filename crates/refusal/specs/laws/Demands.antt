@@ -1,14 +1,12 @@
 -- Laws of what document 01 asks of every public entry, over any kind and any tests: one answer, total and refusing.
 -- Assumes nothing.
-use Rattle.std.specs.Prelude.{◌≡◌, refl, Bool, true, false, cond, List, [], ◌∷◌, ℕ, eqb}
+use Rattle.std.specs.Prelude.{◌≡◌, refl, Bool, true, false, cond, List, [], ◌∷◌, ℕ, eqb, Ok, Err}
 use Rattle.std.proofs.Common.{sym, ap, subst, ◌∙◌, inl, inr, arith, eqb-true}
 use Rattle.refusal.specs.declared.Refusal.{Refusal}
 use Rattle.refusal.specs.declared.Refusal.TheVariants as X
 use Rattle.refusal.specs.declared.Report.{Report}
-use Rattle.refusal.specs.declared.Checked.{Checked}
-use Rattle.refusal.specs.declared.Checked.TheVariants as C
 use Rattle.refusal.specs.Report.{report_of, success}
-use Rattle.refusal.specs.Judge.{Test, judged, checks_of, Kind, Says, Writes}
+use Rattle.refusal.specs.Judge.{Test, judged, Checked, checks_of, Kind, Says, Writes}
 use Rattle.refusal.specs.Demands.{Settled, accepts, refuses, number_of, put_first, numbers_in, Among, Refuses, RefusesWhole}
 use Rattle.refusal.specs.laws.Judge.{judged_passed, judged_refused}
 
@@ -88,8 +86,8 @@ module _ {A : Type 0} {kind : Kind A} {tests : List Test} {answer r : A} (s : Sa
   refused_whole {B} {lent} {after} changed e n = by (checks_of tests) refl
     where
       by : (c : Checked) → c ≡ checks_of tests → after ≡ lent
-      by C.Passed p = absurd (n (ap (λ (report : Report). report.0) (s.number ∙ sym (judged_passed report_of success tests p))))
-      by (C.Refused x) f = e ∙ sym (judged_refused (λ y. lent) changed tests f)
+      by (Ok u) p = absurd (n (ap (λ (report : Report). report.0) (s.number ∙ sym (judged_passed report_of success tests p))))
+      by (Err x) f = e ∙ sym (judged_refused (λ y. lent) changed tests f)
 
 -- ---- the same of a statement: each answer that meets it, and what it leaves in a lent room
 
