@@ -1,3 +1,4 @@
 mod Same
 mod Run
 mod Candidate
+mod Space

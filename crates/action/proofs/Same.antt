@@ -1,24 +1,23 @@
 -- Amounts, and rows, are compared by a test that computes.
 -- Assumes nothing.
+use Rattle.std.specs.Prelude.{Option, Some, None, ℕ}
 use mathlib.Core.Path.{◌≡◌, refl, ap}
 use mathlib.Core.Bool.{Bool, true, false, ◌&&◌}
 use lib.Dec.{T, eqb, eqb→eq}
 use Rattle.laws.specs.laws.Tests.{and_left, and_right}
-use Rattle.action.specs.declared.table.Amount.{Amount}
-use Rattle.action.specs.declared.table.Amount.TheVariants.{Of, Nothing}
 use Rattle.action.specs.declared.table.Attributes.{Attributes}
 
-abbrev same_amount : Amount → Amount → Bool
-same_amount (Of a) (Of b) = eqb a b
-same_amount (Of a) Nothing = false
-same_amount Nothing (Of b) = false
-same_amount Nothing Nothing = true
+abbrev same_amount : Option ℕ → Option ℕ → Bool
+same_amount (Some a) (Some b) = eqb a b
+same_amount (Some a) None = false
+same_amount None (Some b) = false
+same_amount None None = true
 
-same_amount_lem : (x y : Amount) → T (same_amount x y) → x ≡ y
-same_amount_lem (Of a) (Of b) t = ap Of (eqb→eq a b t)
-same_amount_lem (Of a) Nothing t = absurd t
-same_amount_lem Nothing (Of b) t = absurd t
-same_amount_lem Nothing Nothing t = refl
+same_amount_lem : (x y : Option ℕ) → T (same_amount x y) → x ≡ y
+same_amount_lem (Some a) (Some b) t = ap Some (eqb→eq a b t)
+same_amount_lem (Some a) None t = absurd t
+same_amount_lem None (Some b) t = absurd t
+same_amount_lem None None t = refl
 
 both : (a b : Bool) → T (a && b) → T a × T b
 both a b t = (and_left a b t, and_right a b t)

@@ -1,17 +1,15 @@
 -- Document 01, 'Action table': 'an attribute left out there is none, which differs from 0'. Whether it is there, and its bounds where it is.
 -- Assumes nothing.
-use Rattle.std.specs.Prelude.{Bool, true, false, ℕ, ◌≤◌}
-use Rattle.action.specs.declared.table.Amount.{Amount}
-use Rattle.action.specs.declared.table.Amount.TheVariants.{Of, Nothing}
+use Rattle.std.specs.Prelude.{Bool, true, false, ℕ, ◌≤◌, Option, Some, None}
 
-abbrev pub present : Amount → Bool
-present (Of amount) = true
-present Nothing = false
+abbrev pub present : Option ℕ → Bool
+present (Some amount) = true
+present None = false
 
-abbrev pub AtMost : ℕ → Amount → Type 0
-AtMost most (Of amount) = amount ≤ most
-AtMost most Nothing = Unit {0}
+abbrev pub AtMost : ℕ → Option ℕ → Type 0
+AtMost most (Some amount) = amount ≤ most
+AtMost most None = Unit {0}
 
-abbrev pub AtLeast : ℕ → Amount → Type 0
-AtLeast least (Of amount) = least ≤ amount
-AtLeast least Nothing = Unit {0}
+abbrev pub AtLeast : ℕ → Option ℕ → Type 0
+AtLeast least (Some amount) = least ≤ amount
+AtLeast least None = Unit {0}

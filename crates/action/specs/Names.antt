@@ -1,6 +1,6 @@
 -- Document 01, 'Text': '`name`, `label`, `macro_text` as in the source', and the action that a word is 'exactly' the name of.
 -- Assumes nothing.
-use Rattle.std.specs.Prelude.{Bool, true, false, cond, List, ◌∷◌, ◌++◌, ℕ, zero, suc, ◌+◌}
+use Rattle.std.specs.Prelude.{Bool, true, false, cond, List, ◌∷◌, ◌++◌, ℕ, zero, suc, ◌+◌, Option, Some, None}
 use Rattle.text.specs.Bytes.{bytes}
 use Rattle.laws.specs.Lists.{same, elem}
 use Rattle.action.specs.Table.{action_of, attributes_of}
@@ -8,8 +8,6 @@ use Rattle.action.specs.Known.{actions}
 use Rattle.action.specs.Wait.{wait_of}
 use Rattle.action.specs.declared.texts.Text.{Text}
 use Rattle.action.specs.declared.texts.Text.TheVariants as T
-use Rattle.action.specs.declared.names.Found.{Found}
-use Rattle.action.specs.declared.names.Found.TheVariants as F
 
 unfoldable pub name_of : ℕ → List ℕ
 name_of n = bytes (action_of n).name
@@ -34,14 +32,14 @@ text_of T.Label n = label_of n
 text_of T.Macro n = macro_of n
 
 -- the first action from k on, of `left`, whose name the word is
-unfoldable pub found_from : ℕ → ℕ → List ℕ → Found
-found_from zero k word = F.Nothing
-found_from (suc left) k word = cond (same (name_of k) word) (F.Action k) (found_from left (suc k) word)
+unfoldable pub found_from : ℕ → ℕ → List ℕ → Option ℕ
+found_from zero k word = None
+found_from (suc left) k word = cond (same (name_of k) word) (Some k) (found_from left (suc k) word)
 
 -- the action whose name the word is
-unfoldable pub found_of : List ℕ → Found
+unfoldable pub found_of : List ℕ → Option ℕ
 found_of word = found_from actions 0 word
 
-abbrev pub is_found : Found → Bool
-is_found (F.Action n) = true
-is_found F.Nothing = false
+abbrev pub is_found : Option ℕ → Bool
+is_found (Some n) = true
+is_found None = false

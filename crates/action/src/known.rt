@@ -4,28 +4,25 @@ ghost use Rattle.refusal.specs.Judge.{checked_of};
 ghost use Rattle.action.specs.Known.{action_test, list_test};
 
 use super::ACTIONS;
-use refusal::{Checked, Refusal};
+use refusal::Refusal;
 
-pub fn check_action(n: u8) -> Checked
+pub fn check_action(n: u8) -> Result<(), Refusal>
     ensures { result ≡ checked_of (action_test n) }
 {
     if n < ACTIONS {
-        return Checked::Passed;
+        return Ok(());
     }
-    Checked::Refused(Refusal::UnknownAction(0))
+    Err(Refusal::UnknownAction(0))
 }
 
 // The whole list, and the first place where it fails.
-pub fn check_list(list: &[u8]) -> Checked
+pub fn check_list(list: &[u8]) -> Result<(), Refusal>
     ensures { result ≡ checked_of (list_test list.now) }
 {
-    let mut i = 0;
-    while i < list.len() {
-        let n = list[i];
-        if n >= ACTIONS {
-            return Checked::Refused(Refusal::UnknownAction(i));
+    for (i, n) in list.iter().enumerate() {
+        if *n >= ACTIONS {
+            return Err(Refusal::UnknownAction(i));
         }
-        i += 1;
     }
-    Checked::Passed
+    Ok(())
 }

@@ -105,13 +105,6 @@ pub fn put_label(n: u8, out: &mut [u8], at: usize) -> usize
     text::put(out, at, &LABELS[start..end])
 }
 
-// The action whose name a word is.
-#[derive(Clone, Copy)]
-pub enum Found {
-    Action(u8),
-    Nothing,
-}
-
 const SHORTEST: usize = 7;
 
 const LONGEST: usize = 24;
@@ -208,23 +201,16 @@ fn is_name(word: &[u8], n: u8) -> bool
     check::same(word, &NAMES[start..end])
 }
 
-// One comparison at most, with the only name that the word can be.
-pub fn from_name(word: &[u8]) -> Found
+// The action whose name the word is. One comparison at most, with the only name that the word can be.
+pub fn from_name(word: &[u8]) -> Option<u8>
     ensures { result ≡ found_of word.now }
 {
-    if word.len() < SHORTEST {
-        return Found::Nothing;
+    if word.len() < SHORTEST || word.len() > LONGEST {
+        return None;
     }
-    if word.len() > LONGEST {
-        return Found::Nothing;
+    let n = CANDIDATES[key(word)];
+    if n < ACTIONS && is_name(word, n) {
+        return Some(n);
     }
-    let k = key(word);
-    let n = CANDIDATES[k];
-    if n >= ACTIONS {
-        return Found::Nothing;
-    }
-    if is_name(word, n) {
-        return Found::Action(n);
-    }
-    Found::Nothing
+    None
 }

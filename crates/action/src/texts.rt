@@ -15,14 +15,7 @@ const LABEL_MOST: usize = 18;
 fn spaced(text: &[u8]) -> bool
     ensures { result ≡ elem text.now 32 }
 {
-    let mut i = 0;
-    while i < text.len() {
-        if text[i] == b' ' {
-            return true;
-        }
-        i += 1;
-    }
-    false
+    text.contains(&b' ')
 }
 
 // A label that contains a space stands in quotes.
@@ -69,7 +62,7 @@ fn put_macro_text(n: u8, out: &mut [u8], at: usize) -> usize
 // Of the three: in bytes, no text is longer.
 pub const TEXT_MOST: usize = 33;
 
-#[derive(Clone, Copy)]
+#[derive(Clone, Copy, Debug, PartialEq, Eq)]
 pub enum Text {
     Name,
     Label,

@@ -2,7 +2,7 @@
 ghost use Rattle.std.specs.Prelude.{◌≡◌, ◌≤◌};
 ghost use Rattle.action.specs.Wait.{wait_of};
 
-use super::table::{Amount, Attributes};
+use super::table::Attributes;
 
 const BUFF: u8 = 2;
 
@@ -12,17 +12,11 @@ const OTHER: u8 = 3;
 pub fn wait(row: Attributes) -> u8
     ensures { (result ≡ wait_of row) × (result ≤ 3) }
 {
-    let progress = row.progress_efficiency;
-    let Amount::Nothing = progress else {
+    if row.progress_efficiency.is_some()
+        || row.quality_efficiency.is_some()
+        || row.durability_cost.is_some()
+    {
         return OTHER;
-    };
-    let quality = row.quality_efficiency;
-    let Amount::Nothing = quality else {
-        return OTHER;
-    };
-    let durability = row.durability_cost;
-    let Amount::Nothing = durability else {
-        return OTHER;
-    };
+    }
     BUFF
 }

@@ -14,10 +14,7 @@ pub fn calc_durability_cost(
     if perfection {
         return 0;
     }
-    if waste_not > 0 {
-        return base_cost / 2;
-    }
-    if waste_not_ii > 0 {
+    if waste_not > 0 || waste_not_ii > 0 {
         return base_cost / 2;
     }
     base_cost

@@ -1,6 +1,6 @@
 -- Every row of ours is inside the bounds, and what they give; and the most that any row waits.
 -- Assumes nothing.
-use Rattle.std.specs.Prelude.{◌≡◌, refl, Bool, true, false, cond, ◌||◌, ℕ, ◌≤◌, ◌<◌, T, leb, eqb}
+use Rattle.std.specs.Prelude.{◌≡◌, refl, Bool, true, false, cond, ◌||◌, ℕ, ◌≤◌, ◌<◌, T, leb, eqb, Option, Some, None}
 use Rattle.std.proofs.Common.{sym, subst, le_refl, leb→le, lit≤, eqb-true}
 use Rattle.laws.specs.laws.Tests.{cond_le}
 use Rattle.laws.specs.laws.Same.{below, below_at}
@@ -13,22 +13,20 @@ use Rattle.action.specs.Table.{action_of, attributes_of}
 use Rattle.action.specs.Bounds.{RowBounds, RowsIn}
 use Rattle.action.specs.Price.{price_of}
 use Rattle.action.specs.Wait.{wait_of}
-use Rattle.action.specs.declared.table.Amount.{Amount}
-use Rattle.action.specs.declared.table.Amount.TheVariants.{Of, Nothing}
 use Rattle.action.specs.declared.table.Attributes.{Attributes}
 use Rattle.action.specs.declared.price.Combo.{Combo}
 use Rattle.action.specs.declared.price.Combo.TheVariants as C
 
-abbrev within : ℕ → Amount → Bool
-within most (Of amount) = leb amount most
-within most Nothing = true
+abbrev within : ℕ → Option ℕ → Bool
+within most (Some amount) = leb amount most
+within most None = true
 
-within_at_most : (most : ℕ) (a : Amount) → T (within most a) → AtMost most a
-within_at_most most (Of amount) t = leb→le amount most t
-within_at_most most Nothing t = tt
+within_at_most : (most : ℕ) (a : Option ℕ) → T (within most a) → AtMost most a
+within_at_most most (Some amount) t = leb→le amount most t
+within_at_most most None t = tt
 
 -- one attribute over the whole table, by a test that computes
-each : (most : ℕ) (field : Attributes → Amount) → T (below (λ n. within most (field (attributes_of n))) actions)
+each : (most : ℕ) (field : Attributes → Option ℕ) → T (below (λ n. within most (field (attributes_of n))) actions)
     → (n : ℕ) → n < actions → AtMost most (field (attributes_of n))
 each most field t n h = within_at_most most (field (attributes_of n)) (below_at (λ n. within most (field (attributes_of n))) actions n h t)
 
@@ -52,7 +50,7 @@ unfolding action_of
 dearest_most = each dearest (λ a. a.cp_cost) tt
 
 -- a discount is never a surcharge
-module _ {n : ℕ} {row : Attributes} (bounds : RowBounds n row) {base : ℕ} (cost : row.cp_cost ≡ Of base) where
+module _ {n : ℕ} {row : Attributes} (bounds : RowBounds n row) {base : ℕ} (cost : row.cp_cost ≡ Some base) where
   by_test : (b : Bool) → (b ≡ true → discount_price ≤ base) → cond b discount_price base ≤ base
   by_test true h = h refl
   by_test false h = le_refl base
@@ -63,12 +61,12 @@ module _ {n : ℕ} {row : Attributes} (bounds : RowBounds n row) {base : ℕ} (c
   advanced : eqb n A.AdvancedTouch ≡ true → discount_price ≤ base
   advanced t = subst (AtLeast discount_price) cost (bounds.advanced (eqb-true n A.AdvancedTouch t))
 
-  pub price_at_most : (combo : Combo) → price_of n combo base ≤ base
-  price_at_most C.Nothing = le_refl base
-  price_at_most C.BasicTouch = by_test (eqb n A.StandardTouch) standard
-  price_at_most C.StandardTouch = by_test (eqb n A.AdvancedTouch) advanced
-  price_at_most C.RefinedTouch = le_refl base
-  price_at_most C.Observe = by_test (eqb n A.AdvancedTouch) advanced
+  pub price_at_most : (combo : Option Combo) → price_of n combo base ≤ base
+  price_at_most None = le_refl base
+  price_at_most (Some C.BasicTouch) = by_test (eqb n A.StandardTouch) standard
+  price_at_most (Some C.StandardTouch) = by_test (eqb n A.AdvancedTouch) advanced
+  price_at_most (Some C.RefinedTouch) = le_refl base
+  price_at_most (Some C.Observe) = by_test (eqb n A.AdvancedTouch) advanced
 
 -- no wait is above 3 seconds
 pub wait_most : (row : Attributes) → wait_of row ≤ 3

@@ -1,20 +1,18 @@
 -- Laws of the test of a list: what it says of each number, and of a walk that came to place i.
 -- Assumes nothing.
-use Rattle.std.specs.Prelude.{◌≡◌, refl, Bool, true, false, cond, ◌&&◌, List, [], ◌∷◌, leb, length, drop, get_or}
+use Rattle.std.specs.Prelude.{◌≡◌, refl, Bool, true, false, cond, ◌&&◌, List, [], ◌∷◌, leb, length, drop, get_or, Err}
 use Rattle.std.proofs.Common.{sym, ◌∙◌, le_of_suc-le-suc, not-suc-le-zero}
 use Prim.Native.Nat.compare
 use Prim.Native.Nat.{ℕ, zero, suc, ◌+◌, ◌≤◌, ◌<◌}
 use native.Mathlib.Omega.{arith}
 use borrow.Author.Tests.{lt-ltb, le-ltb, ltb-true, ltb-false, leb-true, leb-false, lt-leb, le-leb}
 use Rattle.laws.specs.laws.Front.{front_on, front_stop, front_after}
-use Rattle.refusal.specs.Judge.{checked_of}
+use Rattle.refusal.specs.Judge.{Checked, pass, checked_of}
 use Rattle.refusal.specs.laws.Judge.{alone, shown}
-use Rattle.refusal.specs.declared.Checked.{Checked}
-use Rattle.refusal.specs.declared.Checked.TheVariants.{Passed, Refused}
 use Rattle.refusal.specs.declared.Refusal.TheVariants.{UnknownAction}
 use Rattle.action.specs.Known.{actions, known, all_known, known_front, action_test, list_test}
 
-pub action_shown : {n : ℕ} {checked : Checked} → checked ≡ checked_of (action_test n) → checked ≡ Passed → n < actions
+pub action_shown : {n : ℕ} {checked : Checked} → checked ≡ checked_of (action_test n) → checked ≡ pass → n < actions
 action_shown {n} e p = ltb-true n actions (shown (action_test n) [] (alone (action_test n) e) p).0
 
 -- ---- the test of a list
@@ -30,7 +28,7 @@ all_front (n ∷ rest) = by (known n) (all_front rest)
     by true e = rw compare.suc-suc e
     by false e = sym (lt-leb (suc (length rest)) 0 (omega arith))
 
-pub list_shown : (list : List ℕ) {checked : Checked} → checked ≡ checked_of (list_test list) → checked ≡ Passed → length list ≤ known_front list
+pub list_shown : (list : List ℕ) {checked : Checked} → checked ≡ checked_of (list_test list) → checked ≡ pass → length list ≤ known_front list
 list_shown list e p = leb-true (length list) (known_front list) (sym (all_front list) ∙ (shown (list_test list) [] (alone (list_test list) e) p).0)
 
 -- ---- a walk over the list
@@ -49,14 +47,14 @@ module _ (list : List ℕ) {i : ℕ} (f : Front list i) (h : i < length list) wh
       let e : known_front (drop i list) ≡ suc (known_front (drop (i + 1) list)) = front_on known list i h (lt-ltb _ _ k) in
       (omega arith, omega (arith, f.1))
 
-  pub front_ends : actions ≤ get_or list i 0 → Refused (UnknownAction i) ≡ checked_of (list_test list)
+  pub front_ends : actions ≤ get_or list i 0 → Err (UnknownAction i) ≡ checked_of (list_test list)
   unfolding known_front
   front_ends k =
       let e : known_front (drop i list) ≡ 0 = front_stop known list i h (le-ltb _ _ k) in
       let stop : known_front list ≡ i = omega (arith, f.1) in
       simp (all_front, stop, lt-leb (length list) i h)
 
-pub front_all : (list : List ℕ) {i : ℕ} → Front list i → length list ≤ i → Passed ≡ checked_of (list_test list)
+pub front_all : (list : List ℕ) {i : ℕ} → Front list i → length list ≤ i → pass ≡ checked_of (list_test list)
 unfolding known_front
 front_all list {i} f h = simp (all_front, le-leb (length list) (known_front list) (omega (arith, f.1)))
 

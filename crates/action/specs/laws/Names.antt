@@ -1,6 +1,6 @@
 -- Laws of names and labels: how long they are, and which action a word finds.
 -- Assumes nothing.
-use Rattle.std.specs.Prelude.{◌≡◌, refl, Bool, true, false, cond, List, [], ◌∷◌, ◌++◌, ℕ, zero, suc, ◌+◌, ◌≤◌, ◌<◌, T, leb, eqb, length}
+use Rattle.std.specs.Prelude.{◌≡◌, refl, Bool, true, false, cond, List, [], ◌∷◌, ◌++◌, ℕ, zero, suc, ◌+◌, ◌≤◌, ◌<◌, T, leb, eqb, length, Option, Some, None}
 use Rattle.std.proofs.Common.{sym, ap, subst, ◌∙◌, zero-add, add-zero, suc-add, add-suc, arith, leb→le, eqb→eq, length-append}
 use Rattle.laws.specs.Lists.{elem, same}
 use Rattle.laws.specs.laws.Same.{same→eq, below_at}
@@ -10,8 +10,6 @@ use Rattle.action.specs.Names.{name_of, label_of, quoted_of, macro_of, text_of, 
 use Rattle.action.specs.inner.Texts.{shortest, longest, label_most, text_most}
 use Rattle.action.specs.declared.texts.Text.{Text}
 use Rattle.action.specs.declared.texts.Text.TheVariants as T
-use Rattle.action.specs.declared.names.Found.{Found}
-use Rattle.action.specs.declared.names.Found.TheVariants as F
 
 pub name_long : (n : ℕ) → n < actions → shortest ≤ length (name_of n)
 unfolding action_of name_of
@@ -50,14 +48,14 @@ quoted_plain label f = rw f
 -- ---- the search of the definition
 
 -- the word is no name from k on
-none_from : (left k : ℕ) (word : List ℕ) → ((j : ℕ) → j < left → same (name_of (k + j)) word ≡ false) → found_from left k word ≡ F.Nothing
+none_from : (left k : ℕ) (word : List ℕ) → ((j : ℕ) → j < left → same (name_of (k + j)) word ≡ false) → found_from left k word ≡ None
 unfolding found_from
 none_from zero k word f = refl
 none_from (suc left) k word f =
     rw (simp add-zero at (f 0 (omega arith)))
     (none_from left (suc k) word (λ j h. subst (λ (x : ℕ). same (name_of x) word ≡ false) (add-suc k j ∙ sym (suc-add k j)) (f (suc j) (omega arith))))
 
-pub found_none : (word : List ℕ) → ((j : ℕ) → j < actions → name_of j ≡ word → ⊥) → F.Nothing ≡ found_of word
+pub found_none : (word : List ℕ) → ((j : ℕ) → j < actions → name_of j ≡ word → ⊥) → None ≡ found_of word
 unfolding found_of
 found_none word f = sym (none_from actions 0 word (λ j h. rw zero-add (by (same (name_of j) word) refl h)))
   where
@@ -65,30 +63,30 @@ found_none word f = sym (none_from actions 0 word (λ j h. rw zero-add (by (same
     by {j} true e h = absurd (f j h (same→eq (name_of j) word (subst T (sym e) tt)))
     by {j} false e h = refl
 
-abbrev is_action : Found → ℕ → Bool
-is_action (F.Action k) n = eqb k n
-is_action F.Nothing n = false
+abbrev is_action : Option ℕ → ℕ → Bool
+is_action (Some k) n = eqb k n
+is_action None n = false
 
-is_action_lem : (f : Found) (n : ℕ) → T (is_action f n) → F.Action n ≡ f
-is_action_lem (F.Action k) n t = ap F.Action (sym (eqb→eq k n t))
-is_action_lem F.Nothing n t = absurd t
+is_action_lem : (f : Option ℕ) (n : ℕ) → T (is_action f n) → Some n ≡ f
+is_action_lem (Some k) n t = ap Some (sym (eqb→eq k n t))
+is_action_lem None n t = absurd t
 
 -- each name finds its own action
-pub own_name : (n : ℕ) → n < actions → F.Action n ≡ found_of (name_of n)
+pub own_name : (n : ℕ) → n < actions → Some n ≡ found_of (name_of n)
 unfolding action_of name_of found_from found_of
 own_name n h = is_action_lem (found_of (name_of n)) n (below_at (λ n. is_action (found_of (name_of n)) n) actions n h tt)
 
 -- what is found is an action
-found_below : (left k : ℕ) (word : List ℕ) {n : ℕ} → found_from left k word ≡ F.Action n → n < k + left
+found_below : (left k : ℕ) (word : List ℕ) {n : ℕ} → found_from left k word ≡ Some n → n < k + left
 unfolding found_from
 found_below zero k word e = let z : ◌≡◌ {A = ℕ} 0 1 = cc in absurd (omega arith)
 found_below (suc left) k word {n} e = by (same (name_of k) word) (found_below left (suc k) word) e
   where
-    by : (b : Bool) → (found_from left (suc k) word ≡ F.Action n → n < suc k + left)
-        → cond b (F.Action k) (found_from left (suc k) word) ≡ F.Action n → n < k + suc left
+    by : (b : Bool) → (found_from left (suc k) word ≡ Some n → n < suc k + left)
+        → cond b (Some k) (found_from left (suc k) word) ≡ Some n → n < k + suc left
     by true later e = let m : k ≡ n = cc in omega arith
     by false later e = omega (arith, later e)
 
-pub found_known : (word : List ℕ) {n : ℕ} → found_of word ≡ F.Action n → n < actions
+pub found_known : (word : List ℕ) {n : ℕ} → found_of word ≡ Some n → n < actions
 unfolding found_of
 found_known word e = found_below actions 0 word e

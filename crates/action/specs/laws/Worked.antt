@@ -1,6 +1,6 @@
 -- Examples of document 01, worked out from the definitions.
 -- Assumes nothing.
-use Rattle.std.specs.Prelude.{◌≡◌, refl, eqb, true, false}
+use Rattle.std.specs.Prelude.{◌≡◌, refl, eqb, true, false, Some}
 use Rattle.laws.specs.Bits.{count}
 use Rattle.action.specs.Actions as A
 use Rattle.action.specs.Known.{actions}
@@ -21,13 +21,13 @@ unfolding action_of
 masters_mend = refl
 
 -- StandardTouch after BasicTouch, AdvancedTouch after Observe and after RefinedTouch
-standard_touch : price_of A.StandardTouch BasicTouch 32 ≡ 18
+standard_touch : price_of A.StandardTouch (Some BasicTouch) 32 ≡ 18
 standard_touch = refl
 
-advanced_touch : price_of A.AdvancedTouch Observe 46 ≡ 18
+advanced_touch : price_of A.AdvancedTouch (Some Observe) 46 ≡ 18
 advanced_touch = refl
 
-no_discount : price_of A.AdvancedTouch RefinedTouch 46 ≡ 46
+no_discount : price_of A.AdvancedTouch (Some RefinedTouch) 46 ≡ 46
 no_discount = refl
 
 -- Reflect under innovation; ByregotsBlessing on one inner quiet; BasicSynthesis under veneration

@@ -8,28 +8,30 @@ use Rattle.action.specs.Names.{name_of}
 use Rattle.action.specs.inner.Texts.{key_of, holder, holders}
 use Rattle.action.proofs.Candidate.{candidate_of, too_short, too_long, no_candidate, other_word, that_word}
 use Rattle.action.proofs.names.from_name.Goals as goal
-use Rattle.action.proofs.names.from_name.Goals.{After-key-k}
+use Rattle.action.proofs.names.from_name.Goals.{After-key}
+use Rattle.action.proofs.names.from_name.Goals.{then-word-lt-SHORTEST-via-then-word-lt-SHORTEST, then-word-lt-SHORTEST-via-else-word-lt-SHORTEST+then-word-gt-LONGEST, else-n-lt-ACTIONS-via-else-n-lt-ACTIONS, else-n-lt-ACTIONS-via-then-n-lt-ACTIONS+else-is_name}
 
 -- what is read at the key is the candidate
-read : (c : After-key-k) → get_or (holders 64 0) c.key-k.result 0 ≡ candidate_of c.args.word.now
-read c = ap (λ (k : ℕ). get_or (holders 64 0) k 0) c.key-k.ensures.0
+read : (c : After-key) → get_or (holders 64 0) c.key.result 0 ≡ candidate_of c.args.word.now
+read c = ap (λ (k : ℕ). get_or (holders 64 0) k 0) c.key.ensures.0
 
 pub returns-then-word-lt-SHORTEST : goal.returns-then-word-lt-SHORTEST
 unfolding action_of name_of key_of holder holders
-returns-then-word-lt-SHORTEST c = too_short _ c.if-word-lt-SHORTEST.true
-
-pub returns-then-word-gt-LONGEST : goal.returns-then-word-gt-LONGEST
-unfolding action_of name_of key_of holder holders
-returns-then-word-gt-LONGEST c = too_long _ c.if-word-gt-LONGEST.true
-
-pub returns-then-n-ge-ACTIONS : goal.returns-then-n-ge-ACTIONS
-unfolding action_of name_of key_of holder holders
-returns-then-n-ge-ACTIONS c = no_candidate _ (read (goal.at.returns-then-n-ge-ACTIONS c).After-key-k) c.if-n-ge-ACTIONS.true
+returns-then-word-lt-SHORTEST c =
+    elim c.then-word-lt-SHORTEST.branch [
+      | then-word-lt-SHORTEST-via-then-word-lt-SHORTEST w ↦ too_short _ w.if-word-lt-SHORTEST.true
+      | then-word-lt-SHORTEST-via-else-word-lt-SHORTEST+then-word-gt-LONGEST w ↦ too_long _ w.if-word-gt-LONGEST.true
+    ]
 
 pub returns-then-is_name : goal.returns-then-is_name
 unfolding action_of name_of key_of holder holders
-returns-then-is_name c = that_word _ (read (goal.at.returns-then-is_name c).After-key-k) c.if-n-ge-ACTIONS.false (sym c.is_name.ensures ∙ c.if-is_name.true)
+returns-then-is_name c = that_word _ (read (goal.at.returns-then-is_name c).After-key) c.if-n-lt-ACTIONS.true (sym c.is_name.ensures ∙ c.if-is_name.true)
 
 pub returns : goal.returns
 unfolding action_of name_of key_of holder holders
-returns c = other_word _ (read (goal.at.returns c).After-key-k) c.if-n-ge-ACTIONS.false (sym c.is_name.ensures ∙ c.if-is_name.false)
+returns c =
+    elim c.else-n-lt-ACTIONS.branch [
+      | else-n-lt-ACTIONS-via-else-n-lt-ACTIONS w ↦ no_candidate _ (read (goal.at.returns c).After-key) w.if-n-lt-ACTIONS.false
+      | else-n-lt-ACTIONS-via-then-n-lt-ACTIONS+else-is_name w ↦
+          other_word _ (read (goal.at.returns c).After-key) w.if-n-lt-ACTIONS.true (sym w.is_name.ensures ∙ w.if-is_name.false)
+    ]
