@@ -37,10 +37,10 @@ module _ {text : List ℕ} {d : Digits} (s : Spelled text d) where
   spelled_self = subst (λ (t : List ℕ). Spelled t d) (sym spelled_held) s
 
   -- from the lesser of its start and the width's on it is the text right-aligned
-  pub spelled_right : (w : ℕ) {start : ℕ} → w ≤ 10 → start ≡ min d.from (10 - w) → take (10 - start) (drop start d.bytes) ≡ right_of w text
+  pub spelled_right : (w : ℕ) {start : ℕ} → w ≤ 10 → start ≡ min d.from (10 - w) → take (length d.bytes - start) (drop start d.bytes) ≡ right_of w text
   unfolding right_of
   spelled_right w {start} h e =
-      take_all (10 - start) (drop start d.bytes) (simp length-drop (omega (arith, s.ten)))
+      take_all (length d.bytes - start) (drop start d.bytes) (simp length-drop (omega arith))
       ∙ spelled_drop start (w - length text) (omega (arith, spelled_count))
 
 -- the texts of a negative number and of another, m the number without its sign

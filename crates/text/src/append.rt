@@ -7,12 +7,9 @@ pub fn put(out: &mut [u8], at: usize, text: &[u8]) -> usize
     requires { at + length text.now ≤ length out.old }
     ensures { Put out.old at text.now result out.new }
 {
-    let mut j = 0;
-    while j < text.len() {
-        out[at + j] = text[j];
-        j += 1;
-    }
-    at + j
+    let end = at + text.len();
+    out[at..end].copy_from_slice(text);
+    end
 }
 
 // Stores one byte.

@@ -9,7 +9,7 @@ fn hex_digit(d: u8) -> u8
     requires { d < 16 }
     ensures { result ≡ hex_digit d }
 {
-    if d < 10 { 48 + d } else { 55 + d }
+    if d < 10 { b'0' + d } else { b'A' + (d - 10) }
 }
 
 // Stores n as eight capital digits.
@@ -17,11 +17,9 @@ pub fn put_hex(out: &mut [u8], at: usize, n: u32) -> usize
     requires { at + 8 ≤ length out.old }
     ensures { Put out.old at (hex_of n) result out.new }
 {
-    let mut bytes = [32u8; 8];
-    let mut i: usize = 8;
+    let mut bytes = [b' '; 8];
     let mut rest = n;
-    while i > 0 {
-        i -= 1;
+    for i in (0..8).rev() {
         bytes[i] = hex_digit((rest % 16) as u8);
         rest /= 16;
     }

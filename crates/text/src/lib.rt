@@ -7,5 +7,5 @@ mod decimal;
 mod hex;
 
 pub use append::{put, put_byte};
-pub use decimal::{put_number, put_signed};
+pub use decimal::{Decimal, put_number};
 pub use hex::put_hex;

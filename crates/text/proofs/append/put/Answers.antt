@@ -1,21 +1,16 @@
--- `append::put` meets its contract: after j turns the first j bytes of the text are stored.
+-- `append::put` meets its contract: what is copied over a range is what `over` stores there.
 -- Assumes nothing.
-use mathlib.Core.Path.{◌≡◌, sym, ◌∙◌}
-use native.Mathlib.Omega.{arith}
-use lib.ListN.{length, length-set}
-use Rattle.text.specs.laws.Over.{over_next, over_end}
+use Rattle.std.proofs.Common.{refl, arith, append_assoc, ◌+◌, length}
+use borrow.Rule.Slice.PartMut.{Post-is}
+use Rattle.text.specs.laws.Over.{over_is}
 use Rattle.text.proofs.append.put.Goals as goal
-
-pub loop-j-preserved : goal.loop-j-preserved
-loop-j-preserved c =
-    let l = c.loop-j in (
-      omega arith,
-      sym (over_next _ l.out _ l.j c.loop-j-test.true) ∙ l.invariant.1,
-      simp length-set l.invariant.2,
-    )
 
 pub returns : goal.returns
 returns c =
-    let l = c.loop-j in
-    let all : l.j ≡ length c.args.text.now = omega arith in
-    record { next = rw all; same = over_end _ _ _ c.loop-j-test.false ∙ l.invariant.1 }
+    let out = c.args.out.now in
+    let text = c.args.text.now in
+    let at = c.args.at in
+    record {
+      next = refl;
+      same = rw (c.copy_from_slice.ensures.after, Post-is at (at + length text) out (omega arith), over_is text out at c.requires, append_assoc);
+    }
