@@ -1,4 +1,4 @@
 mod Same
 mod Run
 mod Candidate
-mod Space
+mod Equal

@@ -1,15 +1,14 @@
 // The actions' names and labels, as data, and the action that a name names.
 ghost use Rattle.std.specs.Prelude.{◌≡◌, ◌+◌, ◌≤◌, ◌<◌, length};
 ghost use Rattle.text.specs.Over.{Put};
-ghost use Rattle.laws.specs.Lists.{same as Same·same};
 ghost use Rattle.action.specs.Known.{actions};
 ghost use Rattle.action.specs.Names.{name_of, label_of, found_of};
 ghost use Rattle.action.specs.inner.Texts.{shortest, longest, key_of};
 
 use super::ACTIONS;
 
-// The names in one run, a line for each. An array is built anew wherever it is used, so that names and labels are apart, and their starts short.
-const NAMES: [u8; 419] = *b"BasicSynthesis\
+// The names in one run, a line for each: a table of the texts themselves was tried, and its proof did not close.
+static NAMES: [u8; 419] = *b"BasicSynthesis\
     BasicTouch\
     MastersMend\
     Observe\
@@ -42,7 +41,7 @@ const NAMES: [u8; 419] = *b"BasicSynthesis\
     TrainedPerfection";
 
 // The labels, likewise.
-const LABELS: [u8; 418] = *b"Basic Synthesis\
+static LABELS: [u8; 418] = *b"Basic Synthesis\
     Basic Touch\
     Master's Mend\
     Observe\
@@ -75,34 +74,44 @@ const LABELS: [u8; 418] = *b"Basic Synthesis\
     Trained Perfection";
 
 // Where each name starts in its run, and where the last one ends.
-const NAME_STARTS: [u16; 32] = [
+static NAME_STARTS: [u16; 32] = [
     0, 14, 24, 35, 42, 50, 60, 73, 85, 95, 116, 126, 142, 154, 170, 182, 194, 207, 214, 230, 240,
     257, 267, 290, 307, 323, 337, 349, 373, 388, 402, 419,
 ];
 
-const LABEL_STARTS: [u16; 32] = [
+static LABEL_STARTS: [u16; 32] = [
     0, 15, 26, 39, 46, 55, 65, 79, 92, 102, 117, 129, 147, 160, 177, 189, 202, 216, 223, 240, 250,
     268, 279, 296, 306, 323, 338, 351, 369, 385, 400, 418,
 ];
+
+fn name_of(n: u8) -> &'static [u8]
+    requires { n < actions }
+    ensures { result.now ≡ name_of n }
+{
+    let i = n as usize;
+    &NAMES[NAME_STARTS[i] as usize..NAME_STARTS[i + 1] as usize]
+}
+
+fn label_of(n: u8) -> &'static [u8]
+    requires { n < actions }
+    ensures { result.now ≡ label_of n }
+{
+    let i = n as usize;
+    &LABELS[LABEL_STARTS[i] as usize..LABEL_STARTS[i + 1] as usize]
+}
 
 pub fn put_name(n: u8, out: &mut [u8], at: usize) -> usize
     requires { (n < actions) × (at + length (name_of n) ≤ length out.old) }
     ensures { Put out.old at (name_of n) result out.new }
 {
-    let i = n as usize;
-    let start = NAME_STARTS[i] as usize;
-    let end = NAME_STARTS[i + 1] as usize;
-    text::put(out, at, &NAMES[start..end])
+    text::put(out, at, name_of(n))
 }
 
 pub fn put_label(n: u8, out: &mut [u8], at: usize) -> usize
     requires { (n < actions) × (at + length (label_of n) ≤ length out.old) }
     ensures { Put out.old at (label_of n) result out.new }
 {
-    let i = n as usize;
-    let start = LABEL_STARTS[i] as usize;
-    let end = LABEL_STARTS[i + 1] as usize;
-    text::put(out, at, &LABELS[start..end])
+    text::put(out, at, label_of(n))
 }
 
 const SHORTEST: usize = 7;
@@ -110,7 +119,7 @@ const SHORTEST: usize = 7;
 const LONGEST: usize = 24;
 
 // By its length and two letters a name is told from every other: at that key stands its action, and `ACTIONS`, which is none, at every other key.
-const CANDIDATES: [u8; 64] = [
+static CANDIDATES: [u8; 64] = [
     super::PREPARATORY_TOUCH,
     ACTIONS,
     ACTIONS,
@@ -190,17 +199,6 @@ fn wide(b: u8) -> usize
     b as usize
 }
 
-// The word is exactly the name of action n.
-fn is_name(word: &[u8], n: u8) -> bool
-    requires { n < actions }
-    ensures { result ≡ Same·same (name_of n) word.now }
-{
-    let i = n as usize;
-    let start = NAME_STARTS[i] as usize;
-    let end = NAME_STARTS[i + 1] as usize;
-    check::same(word, &NAMES[start..end])
-}
-
 // The action whose name the word is. One comparison at most, with the only name that the word can be.
 pub fn from_name(word: &[u8]) -> Option<u8>
     ensures { result ≡ found_of word.now }
@@ -209,7 +207,7 @@ pub fn from_name(word: &[u8]) -> Option<u8>
         return None;
     }
     let n = CANDIDATES[key(word)];
-    if n < ACTIONS && is_name(word, n) {
+    if n < ACTIONS && word == name_of(n) {
         return Some(n);
     }
     None

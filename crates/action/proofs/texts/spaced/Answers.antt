@@ -1,7 +1,7 @@
 -- `action::texts::spaced` meets its contract.
 -- Assumes nothing.
 use Rattle.std.proofs.Common.{◌∙◌}
-use Rattle.action.proofs.Space.{any_is_elem}
+use Rattle.action.proofs.Equal.{any_is_elem}
 use Rattle.action.proofs.texts.spaced.Goals as goal
 
 pub returns : goal.returns
