@@ -1,5 +1,5 @@
 // The work on a set's bits, for callers that know the set and the number to be in range.
-ghost use Rattle.std.specs.Prelude.{◌≡◌, ◌^◌, ◌≤◌, ◌<◌, length};
+ghost use Rattle.std.specs.Prelude.{◌≡◌, Bool, ℕ, ◌^◌, ◌≤◌, ◌<◌, length};
 ghost use Rattle.laws.specs.Lists.{elem};
 ghost use Rattle.laws.specs.Bits.{has};
 ghost use Rattle.laws.specs.inner.Bits.{Member, Top};
@@ -41,7 +41,7 @@ pub fn size(s: u32) -> u32
     requires { SetIn s }
     ensures { result ≡ size_of s }
 {
-    u32::count_ones(s)
+    s.count_ones()
 }
 
 // The highest member.
@@ -49,7 +49,7 @@ pub fn top(s: u32) -> u8
     requires { (0 < s) × SetIn s }
     ensures { Top s result }
 {
-    (31 - u32::leading_zeros(s)) as u8
+    (31 - s.leading_zeros()) as u8
 }
 
 // The member that draw n names: the members above it are taken off, and it is the highest of the rest.
@@ -58,10 +58,8 @@ pub fn nth(s: u32, n: u8) -> u8
     ensures { result ≡ nth_of s n }
 {
     let mut remaining = s;
-    let mut above = n;
-    while above != 0 {
+    for _ in 0..n {
         remaining -= bit(top(remaining));
-        above -= 1;
     }
     top(remaining)
 }
@@ -71,13 +69,15 @@ pub fn next(s: u32) -> u8
     requires { (0 < s) × SetIn s }
     ensures { Member actions s result }
 {
-    u32::trailing_zeros(s) as u8
+    s.trailing_zeros() as u8
 }
 
-// The walk over a set: each member is taken off what remains, tested, and dropped if it fails. Here the test is membership of a second set.
-pub fn keep(s: u32, passing: u32) -> u32
-    requires { SetIn s }
-    ensures { result ≡ keep_of (has passing) s }
+// The walk over a set: each member is taken off what remains, tested, and dropped if it fails.
+pub fn keep<F: Fn(u8) -> bool>(s: u32, test: F) -> u32
+    requires set { SetIn s }
+    requires callable { (n : ℕ) → n < actions → F.pre test n }
+    ensures kept { (p : ℕ → Bool) → ((n : ℕ) (b : Bool) → n < actions → F.post test n b → b ≡ p n) → result ≡ keep_of p s }
+    ensures inside { SetIn result }
 {
     let mut kept = s;
     let mut remaining = s;
@@ -85,7 +85,7 @@ pub fn keep(s: u32, passing: u32) -> u32
         let n = next(remaining);
         let b = bit(n);
         remaining -= b;
-        if !holds(passing, n) {
+        if !test(n) {
             kept -= b;
         }
     }
@@ -97,10 +97,8 @@ pub fn of_list(list: &[u8]) -> u32
     ensures { result ≡ set_of (elem list.now) }
 {
     let mut s: u32 = 0;
-    let mut i = 0;
-    while i < list.len() {
-        s = add(s, list[i]);
-        i += 1;
+    for n in list {
+        s = add(s, *n);
     }
     s
 }
@@ -110,12 +108,9 @@ pub fn put_members(s: u32, out: &mut [u8]) -> usize
     ensures { Put out.old 0 (members_of s) result out.new }
 {
     let mut at: usize = 0;
-    let mut m: u8 = 0;
-    while m < ACTIONS {
-        let n = m;
-        m += 1;
-        if holds(s, n) {
-            out[at] = n;
+    for m in 0..ACTIONS {
+        if holds(s, m) {
+            out[at] = m;
             at += 1;
         }
     }

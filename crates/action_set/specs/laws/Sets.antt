@@ -12,18 +12,16 @@ use Rattle.laws.specs.laws.Same.{same_bool, same_bool_lem, below_at}
 use Rattle.laws.specs.laws.Lists.{drop_at}
 use Rattle.laws.specs.Bits.{has, count}
 use Rattle.laws.specs.laws.Bits.{has_high, has_with, collect_same, collect_lt, set_of_has}
-use Rattle.refusal.specs.declared.Checked.{Checked}
-use Rattle.refusal.specs.declared.Checked.TheVariants.{Passed}
-use Rattle.refusal.specs.Judge.{checked_of, checks_of}
+use Rattle.refusal.specs.Judge.{Checked, pass, checked_of, checks_of}
 use Rattle.refusal.specs.laws.Judge.{alone, shown}
 use Rattle.action.specs.Known.{actions, action_test}
 use Rattle.action_set.specs.Sets.{SetIn, set_test, member_tests, set_of, with_of, keep_of, size_of, upward, members_of}
 use Rattle.laws.specs.Lists.{elem}
 
-pub set_shown : {s : ℕ} {checked : Checked} → checked ≡ checked_of (set_test s) → checked ≡ Passed → SetIn s
+pub set_shown : {s : ℕ} {checked : Checked} → checked ≡ checked_of (set_test s) → checked ≡ pass → SetIn s
 set_shown {s} e p = ltb-true s (2 ^ actions) (shown (set_test s) [] (alone (set_test s) e) p).0
 
-pub member_shown : (s n : ℕ) {checked : Checked} → checked ≡ checks_of (member_tests s n) → checked ≡ Passed → SetIn s × (n < actions)
+pub member_shown : (s n : ℕ) {checked : Checked} → checked ≡ checks_of (member_tests s n) → checked ≡ pass → SetIn s × (n < actions)
 member_shown s n e p =
     let first = shown (set_test s) (action_test n ∷ []) e p in
     (ltb-true s (2 ^ actions) first.0, ltb-true n actions (shown (action_test n) [] first.1 p).0)

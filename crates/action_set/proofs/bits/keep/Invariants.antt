@@ -1,12 +1,16 @@
--- `action_set::bits::keep` meets its contract: the walk's laws at membership of the second set. The measure is what remains.
+-- `action_set::bits::keep` meets its contract: the walk's laws, at each rule that the test's answers follow. The measure is what remains.
 -- Assumes nothing.
-use Rattle.laws.specs.Bits.{has}
+use Rattle.std.proofs.Common.{◌≡◌, Bool, ℕ, ◌<◌, ◌≤◌}
 use Rattle.laws.specs.laws.Walk.{Walk}
 use Rattle.action.specs.Known.{actions}
 use Rattle.action_set.proofs.bits.keep.Given as goal
 
 abbrev pub invariant-loop-remaining : goal.invariant-loop-remaining
-invariant-loop-remaining l = Walk actions (has l.passing) l.s l.kept l.remaining
+invariant-loop-remaining g l = record {
+  part : l.remaining ≤ l.kept;
+  less : l.kept ≤ l.s;
+  walk : (p : ℕ → Bool) → ((n : ℕ) (b : Bool) → n < actions → goal.F-post g l.test n b → b ≡ p n) → Walk actions p l.s l.kept l.remaining;
+}
 
 abbrev pub decreases-loop-remaining : goal.decreases-loop-remaining
-decreases-loop-remaining l = l.remaining
+decreases-loop-remaining g l = l.remaining

@@ -8,17 +8,17 @@ use Rattle.action.specs.laws.Known.{known_each}
 use Rattle.action_set.specs.laws.Sets.{joined, joined_start, joined_turn, joined_end}
 use Rattle.action_set.proofs.bits.of_list.Goals as goal
 
-pub loop-i-init : goal.loop-i-init
-loop-i-init c = (joined_start _, pow_pos actions)
+pub loop-n-init : goal.loop-n-init
+loop-n-init c = (joined_start _, pow_pos actions)
 
 pub add-s-requires : goal.add-s-requires
-add-s-requires c = (c.loop-i.invariant.1, known_each _ c.requires _ c.loop-i-test.true)
+add-s-requires c = (c.loop-n.invariant.1, known_each _ c.requires _ c.loop-n-test.true)
 
-pub loop-i-preserved : goal.loop-i-preserved
-loop-i-preserved c =
-    (joined_turn _ _ _ c.loop-i-test.true c.add-s.ensures.0 ∙ c.loop-i.invariant.0, c.add-s.ensures.1)
+pub loop-n-preserved : goal.loop-n-preserved
+loop-n-preserved c =
+    (joined_turn _ _ _ c.loop-n-test.true c.add-s.ensures.0 ∙ c.loop-n.invariant.0, c.add-s.ensures.1)
 
 pub returns : goal.returns
 returns c =
-    let l = c.loop-i in
-    sym (joined_end _ l.invariant.1) ∙ ap (joined _) (sym (drop_of_length-le _ c.loop-i-test.false)) ∙ l.invariant.0
+    let l = c.loop-n in
+    sym (joined_end _ l.invariant.1) ∙ ap (joined _) (sym (drop_of_length-le _ c.loop-n-test.false)) ∙ l.invariant.0
