@@ -1,7 +1,7 @@
 -- Document 01, What comes back on refusal: the tests of the tree's entries, 1, 3, 7, 8, 9, 10 and 11 in this order, and 6 last.
 -- Document 02, E7: unused moves with bit 31 set are refused by 1.
 -- Assumes nothing.
-use Rattle.std.specs.Prelude.{ℕ, ◌+◌, Bool, not, List, [], ◌∷◌, length, nat_lt, Float}
+use Rattle.std.specs.Prelude.{ℕ, ◌+◌, not, List, [], ◌∷◌, length, nat_lt, Float}
 use Rattle.refusal.specs.Judge.{Test, room_test}
 use Rattle.refusal.specs.declared.Refusal.TheVariants.{UnsoundTree, UnknownNode, NotAbove, VisitsFull}
 use Rattle.action.specs.Known.{action_test}
@@ -12,12 +12,8 @@ use Rattle.tree.specs.Tree.{is_sound, children_of, is_above, path_of, any_full, 
 
 -- ---- refusals 7, 8, 9 and 11
 
--- 7, by what a scan found
-abbrev pub scanned_test : Bool → Test
-scanned_test sound = record { passed = sound; otherwise = UnsoundTree }
-
 abbrev pub tree_test : List Node → ℕ → Test
-tree_test nodes count = scanned_test (is_sound nodes count)
+tree_test nodes count = record { passed = is_sound nodes count; otherwise = UnsoundTree }
 
 abbrev pub node_test : ℕ → ℕ → Test
 node_test count k = record { passed = nat_lt k count; otherwise = UnknownNode }

@@ -1,5 +1,4 @@
 pub mod Best
 pub mod Sound
 pub mod Back
-pub mod Grow
 pub mod Few

@@ -6,7 +6,7 @@ ghost use Rattle.tree.specs.inner.Best.{no_best, is_better, pick_of};
 use super::node::Node;
 
 // The best child so far; 0 where there is none, since record 0 is no child.
-#[derive(Clone, Copy)]
+#[derive(Clone, Copy, Debug, PartialEq)]
 pub struct Best {
     pub at: usize,
     pub max_score: f32,

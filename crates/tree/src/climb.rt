@@ -1,34 +1,16 @@
 // The way up from a record to one above it: walked once to test, and once to write.
-ghost use Rattle.std.specs.Prelude.{◌≡◌, ◌<◌, ◌||◌, length};
-ghost use Rattle.tree.specs.Node.{is_full};
+ghost use Rattle.std.specs.Prelude.{◌≡◌, ◌<◌, length};
 ghost use Rattle.tree.specs.Tree.{touched_at, back_of};
-ghost use Rattle.tree.specs.inner.Back.{survey_of, Climbs, Reaches, Surveys};
+ghost use Rattle.tree.specs.inner.Back.{Climbs, Reaches, Surveys};
 
 use super::node::{Node, is_full, touched};
 use super::records::{node_at, put_node};
 
 // Whether the target is the start or above it; and then whether a record from start to target is full.
-#[derive(Clone, Copy)]
+#[derive(Clone, Copy, Debug, PartialEq, Eq)]
 pub struct Survey {
     pub above: bool,
     pub full: bool,
-}
-
-// Whether a record is full, when n comes after those that this was found of.
-fn is_any_full(full: bool, n: Node) -> bool
-    ensures { result ≡ full || is_full n }
-{
-    full | is_full(n)
-}
-
-// What was found, when the way has come to record k, whose number is not above the target's.
-fn surveyed(full: bool, k: usize, n: Node, target: usize) -> Survey
-    ensures { result ≡ survey_of full k n target }
-{
-    Survey {
-        above: k == target,
-        full: is_any_full(full, n),
-    }
 }
 
 // A parent has a smaller number, so a target whose number was passed by is not above.
@@ -38,13 +20,16 @@ pub fn survey_path(nodes: &[Node], start: usize, target: usize) -> Survey
 {
     let mut full = false;
     let mut k = start;
+    // The steps are the records' own, so no range goes over them.
     while target < k {
         let n = node_at(nodes, k);
-        full = is_any_full(full, n);
+        full |= is_full(n);
         k = n.parent;
     }
-    let n = node_at(nodes, k);
-    surveyed(full, k, n, target)
+    Survey {
+        above: k == target,
+        full: full | is_full(node_at(nodes, k)),
+    }
 }
 
 fn touch(nodes: &mut [Node], k: usize, score: f32)
@@ -52,8 +37,7 @@ fn touch(nodes: &mut [Node], k: usize, score: f32)
     ensures { nodes.new ≡ touched_at nodes.old k score }
 {
     let n = node_at(nodes, k);
-    let m = touched(n, score);
-    put_node(nodes, k, m);
+    put_node(nodes, k, touched(n, score));
 }
 
 // The way comes by the target, so it ends there.
@@ -63,9 +47,9 @@ pub fn touch_path(nodes: &mut [Node], start: usize, target: usize, score: f32)
 {
     let mut k = start;
     while target < k {
-        let n = node_at(nodes, k);
+        let parent = node_at(nodes, k).parent;
         touch(nodes, k, score);
-        k = n.parent;
+        k = parent;
     }
     touch(nodes, target, score);
 }

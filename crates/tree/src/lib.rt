@@ -1,6 +1,6 @@
 // The tree of tree.rs and simulator.rs: a lent slice of records and a count of those used, and its entries.
 
-#![tactic(auto)]
+#![tactic(auto, unfolding(refusal::specs::Judge::judged))]
 
 mod back;
 mod best;
@@ -15,14 +15,14 @@ mod records;
 mod scan;
 mod soundness;
 
-pub use back::{Propagated, backpropagate, is_passed};
+pub use back::backpropagate;
 pub use best::{Best, is_child, pick};
 pub use climb::{Survey, survey_path, touch_path};
 pub use descend::{best_child, put_solution, solution_len};
-pub use grow::{Inserted, Planted, Recorded, insert, plant, record_at};
+pub use grow::{insert, plant, record_at};
 pub use listing::{count_children, put_children};
 pub use node::{Node, check_score, is_full, touched};
-pub use paths::{Offspring, Solved, children, solution};
+pub use paths::{children, solution};
 pub use records::{node_at, put_node};
 pub use scan::is_sound;
 pub use soundness::is_sound_at;

@@ -1,6 +1,6 @@
 // The children of a record, in record order.
-ghost use Rattle.std.specs.Prelude.{◌≡◌, ◌<◌, ◌≤◌, [], ◌∷◌, length};
-ghost use Rattle.text.specs.Over.{Put, over};
+ghost use Rattle.std.specs.Prelude.{◌≡◌, ◌≤◌, length};
+ghost use Rattle.text.specs.Over.{over};
 ghost use Rattle.tree.specs.Tree.{children_of};
 
 use super::best::is_child;
@@ -12,24 +12,12 @@ pub fn count_children(nodes: &[Node], count: usize, parent: usize) -> usize
     ensures { result ≡ length (children_of count nodes.now parent) }
 {
     let mut len = 0;
-    let mut i = 0;
-    while i < count {
-        let n = node_at(nodes, i);
-        if is_child(i, n, parent) {
+    for k in 0..count {
+        if is_child(k, node_at(nodes, k), parent) {
             len += 1;
         }
-        i += 1;
     }
     len
-}
-
-// Stores one number, and answers the place after it.
-fn put_index(out: &mut [usize], at: usize, k: usize) -> usize
-    requires { at < length out.old }
-    ensures { Put out.old at (k ∷ []) result out.new }
-{
-    out[at] = k;
-    at + 1
 }
 
 // Stores the numbers of the children, and answers how many they are.
@@ -38,13 +26,11 @@ pub fn put_children(nodes: &[Node], out: &mut [usize], count: usize, parent: usi
     ensures { (result ≡ length (children_of count nodes.now parent)) × (out.new ≡ over out.old 0 (children_of count nodes.now parent)) }
 {
     let mut at = 0;
-    let mut i = 0;
-    while i < count {
-        let n = node_at(nodes, i);
-        if is_child(i, n, parent) {
-            at = put_index(out, at, i);
+    for k in 0..count {
+        if is_child(k, node_at(nodes, k), parent) {
+            out[at] = k;
+            at += 1;
         }
-        i += 1;
     }
     at
 }

@@ -4,11 +4,11 @@ ghost use Rattle.refusal.specs.Judge.{checked_of};
 ghost use Rattle.tree.specs.Node.{node_of, root_node, score_test, is_full, greater_of, touched_of};
 
 use action::ACTIONS;
-use refusal::{Checked, Refusal};
+use refusal::Refusal;
 
 // Laid out as in C, so that hosts lend their own records.
 #[repr(C)]
-#[derive(Clone, Copy)]
+#[derive(Clone, Copy, Debug, PartialEq)]
 pub struct Node {
     // The record's number above it; 0 in record 0.
     pub parent: usize,
@@ -37,8 +37,8 @@ impl Node {
         ensures { result ≡ node_of parent action unused }
     {
         Node {
-            parent: parent,
-            action: action,
+            parent,
+            action,
             visits: 0.0,
             score_sum: 0.0,
             max_score: 0.0,
@@ -55,13 +55,13 @@ impl Node {
 }
 
 // Refusal 10: a NaN fails both comparisons.
-pub fn check_score(score: f32) -> Checked
+pub fn check_score(score: f32) -> Result<(), Refusal>
     ensures { result ≡ checked_of (score_test score) }
 {
     if (Node::SCORE_LEAST <= score) & (score <= Node::SCORE_MOST) {
-        return Checked::Passed;
+        return Ok(());
     }
-    Checked::Refused(Refusal::BadScore)
+    Err(Refusal::BadScore)
 }
 
 // Whether the record takes no visit more.

@@ -4,9 +4,8 @@
 use Rattle.std.specs.Prelude.{◌≡◌, ℕ, ◌+◌, ◌<◌, ◌≤◌, true, false, List, [], length, ◌≢◌, refl, Float}
 use Rattle.std.proofs.Common.{arith, leb-true, ltb-true}
 use Rattle.std.proofs.lemmas.Bool.{not-true}
-use Rattle.refusal.specs.Judge.{checks_of, room_test}
+use Rattle.refusal.specs.Judge.{pass, checks_of, room_test}
 use Rattle.refusal.specs.laws.Judge.{shown}
-use Rattle.refusal.specs.declared.Checked.TheVariants.{Passed}
 use Rattle.laws.specs.Lists.{elem}
 use Rattle.action.specs.Known.{action_test}
 use Rattle.action_set.specs.Sets.{set_test}
@@ -19,12 +18,12 @@ use Rattle.tree.specs.laws.Climb.{path_reaches}
 use Rattle.tree.specs.laws.Back.{back_on, back_off, back_differs, back_sound}
 use Rattle.tree.specs.Refusals.{tree_test, node_test, above_test, visits_test, new_count, new_tests, insert_tests, back_tests}
 
-pub new_kept : (nodes : List Node) (unused : ℕ) → Passed ≡ checks_of (new_tests nodes unused) → is_sound (planted_of nodes unused) new_count ≡ true
+pub new_kept : (nodes : List Node) (unused : ℕ) → pass ≡ checks_of (new_tests nodes unused) → is_sound (planted_of nodes unused) new_count ≡ true
 new_kept nodes unused e =
     let moves = shown (set_test unused) _ e refl in
     of_tree (planted_sound nodes unused moves.0 (leb-true new_count (length nodes) (shown (room_test (length nodes) new_count) [] moves.1 refl).0))
 
-pub insert_kept : (nodes : List Node) (count parent action unused : ℕ) → Passed ≡ checks_of (insert_tests nodes count parent action unused)
+pub insert_kept : (nodes : List Node) (count parent action unused : ℕ) → pass ≡ checks_of (insert_tests nodes count parent action unused)
     → is_sound (inserted_of nodes count parent action unused) (count + 1) ≡ true
 insert_kept nodes count parent action unused e =
     let moves = shown (set_test unused) _ e refl in
@@ -42,7 +41,7 @@ record Accepted (nodes : List Node) (count start target : ℕ) (score : Float) :
   bounded : is_score score ≡ true
   room : any_full nodes (path_of nodes start target) ≡ false
 
-module _ (nodes : List Node) (count start target : ℕ) (score : Float) (e : Passed ≡ checks_of (back_tests nodes count start target score)) where
+module _ (nodes : List Node) (count start target : ℕ) (score : Float) (e : pass ≡ checks_of (back_tests nodes count start target score)) where
   accepted : Accepted nodes count start target score
   accepted =
       let tree = shown (tree_test nodes count) _ e refl in

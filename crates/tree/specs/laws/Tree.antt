@@ -1,8 +1,10 @@
 -- Laws of a tree: what soundness says, record by record, and that a new tree and an accepted insertion are sound.
 -- Assumes nothing.
-use Rattle.std.specs.Prelude.{◌≡◌, ℕ, zero, suc, ◌+◌, ◌<◌, ◌≤◌, true, ◌&&◌, ◌⊎◌, List, length, nat_le, refl}
+use Rattle.std.specs.Prelude.{◌≡◌, ℕ, zero, suc, ◌+◌, ◌<◌, ◌≤◌, true, ◌&&◌, ◌⊎◌, List, [], length, nat_le, refl}
 use Rattle.std.proofs.Common.{⊎_elim, eq-or-lt_of_le, add-one, arith, length-set, get_or-set_same, get_or-set_other, le-leb, leb-true, ltb-true, ne_eqb}
 use Rattle.laws.specs.laws.Tests.{both, and_both}
+use Rattle.refusal.specs.Judge.{Checked, pass, checked_of}
+use Rattle.refusal.specs.laws.Judge.{alone, shown}
 use Rattle.action.specs.Known.{known}
 use Rattle.tree.specs.declared.node.Node.{Node}
 use Rattle.tree.specs.Node.{node_of, root_node}
@@ -10,6 +12,7 @@ use Rattle.action_set.specs.Sets.{is_set}
 use Rattle.tree.specs.Sound.{sound_at}
 use Rattle.tree.specs.laws.Node.{sound_parts, root_sound, new_sound}
 use Rattle.tree.specs.Tree.{no_node, node_at, sound_to, is_sound, planted_of, inserted_of, Falls}
+use Rattle.tree.specs.Refusals.{tree_test, node_test}
 use Rattle.tree.specs.inner.Sound.{SoundTree}
 
 -- ---- soundness, record by record
@@ -66,3 +69,11 @@ module _ (nodes : List Node) (count parent action unused : ℕ) (tree : SoundTre
 
       before : (k : ℕ) → k < count → sound_at k (node_at (inserted_of nodes count parent action unused) k) ≡ true
       before k h = rw (get_or-set_other nodes count k (node_of parent action unused) no_node (λ e. omega arith)) (tree.each k h)
+
+-- ---- what the code's tests of a tree and of a number have shown
+
+pub checked_tree : {nodes : List Node} {count : ℕ} {checked : Checked} → checked ≡ checked_of (tree_test nodes count) → checked ≡ pass → SoundTree nodes count
+checked_tree {nodes} {count} e p = tree_of (shown (tree_test nodes count) [] (alone (tree_test nodes count) e) p).0
+
+pub checked_node : {count k : ℕ} {checked : Checked} → checked ≡ checked_of (node_test count k) → checked ≡ pass → k < count
+checked_node {count} {k} e p = ltb-true k count (shown (node_test count k) [] (alone (node_test count k) e) p).0

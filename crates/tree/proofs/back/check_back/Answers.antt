@@ -1,14 +1,8 @@
--- `tree::back::check_back` meets its contract: the ends are tested before the way between them.
+-- `tree::back::check_back` meets its contract: the way up is walked where the ends are records of a sound tree.
 -- Assumes nothing.
-use Rattle.std.proofs.Common.{sym, ◌∙◌}
-use Rattle.tree.specs.laws.Propagate.{back_stops, back_climbs, back_goes_on}
+use Rattle.tree.specs.laws.Tree.{checked_tree, checked_node}
+use Rattle.tree.specs.laws.Propagate.{climbs_of}
 use Rattle.tree.proofs.back.check_back.Goals as goal
 
-pub returns-then-not-passed : goal.returns-then-not-passed
-returns-then-not-passed c = back_stops _ _ _ _ _ c.is_sound-sound.ensures c.check_ends-ends.ensures (sym c.is_passed-passed.ensures ∙ c.if-not-passed.true)
-
 pub survey_path-survey-requires : goal.survey_path-survey-requires
-survey_path-survey-requires c = back_climbs _ _ _ _ c.args.score c.is_sound-sound.ensures c.check_ends-ends.ensures (sym c.is_passed-passed.ensures ∙ c.if-not-passed.false)
-
-pub returns : goal.returns
-returns c = back_goes_on _ _ _ _ _ c.is_sound-sound.ensures c.check_ends-ends.ensures (sym c.is_passed-passed.ensures ∙ c.if-not-passed.false) c.survey_path-survey.ensures c.check_way.ensures
+survey_path-survey-requires c = climbs_of (checked_tree c.check_tree.ensures c.in_ok-check_tree.was) (checked_node c.check_node.ensures c.in_ok-check_node.was)

@@ -4,7 +4,7 @@ use Rattle.tree.proofs.Turns.{test_turns, test_ends}
 use Rattle.tree.proofs.climb.survey_path.Goals as goal
 
 pub loop-k-preserved : goal.loop-k-preserved
-loop-k-preserved c = rw (c.is_any_full-full.ensures, c.node_at-n.ensures) (test_turns _ _ _ c.requires c.loop-k.invariant c.loop-k-test.true)
+loop-k-preserved c = rw (c.is_full-full.ensures, c.node_at-n.ensures) (test_turns _ _ _ c.requires c.loop-k.invariant c.loop-k-test.true)
 
 pub returns : goal.returns
-returns c = rw (c.surveyed.ensures, c.node_at-n-2.ensures) (test_ends _ _ _ c.requires c.loop-k.invariant c.loop-k-test.false)
+returns c = rw (c.is_full.ensures, c.node_at.ensures) (test_ends _ _ _ c.requires c.loop-k.invariant c.loop-k-test.false)

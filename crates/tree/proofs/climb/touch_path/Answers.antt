@@ -5,7 +5,7 @@ use Rattle.tree.proofs.Turns.{write_turns, write_arrives, write_ends}
 use Rattle.tree.proofs.climb.touch_path.Goals as goal
 
 pub loop-k-preserved : goal.loop-k-preserved
-loop-k-preserved c = rw (c.touch.ensures, c.node_at-n.ensures) (write_turns _ _ _ _ c.requires c.loop-k.invariant c.loop-k-test.true)
+loop-k-preserved c = rw (c.touch.ensures, c.node_at-parent.ensures) (write_turns _ _ _ _ c.requires c.loop-k.invariant c.loop-k-test.true)
 
 pub touch-requires-2 : goal.touch-requires-2
 touch-requires-2 c = omega (arith, write_arrives _ _ _ _ c.requires c.loop-k.invariant c.loop-k-test.false)

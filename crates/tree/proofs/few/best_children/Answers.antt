@@ -1,6 +1,6 @@
 -- `tree::few::best_children` meets its contract: the table has the best children among the records before the next.
 -- Assumes nothing.
-use Rattle.std.proofs.Common.{◌≡◌, ℕ, ◌+◌, ◌<◌, List, length, subst, le_antisymm, arith}
+use Rattle.std.proofs.Common.{◌≡◌, ℕ, ◌+◌, ◌<◌, List, length, subst, arith}
 use Rattle.tree.specs.declared.node.Node.{Node}
 use Rattle.tree.specs.Tree.{node_at}
 use Rattle.tree.specs.inner.Few.{Noting, child_noted, Blank}
@@ -25,13 +25,15 @@ module _ (xs : List Node) (n : ℕ) (os : List ℕ) (blank : Blank xs n os) (k :
   turned said = rw said (bests_next xs k some best bests above)
 
 pub loop-k-init : goal.loop-k-init
-loop-k-init c = record { some = omega arith; within = c.requires.tree.some; bests = bests_first c.requires }
+loop-k-init c = bests_first c.requires
 
 pub note_child-requires : goal.note_child-requires
-note_child-requires c = let l = c.loop-k in noting _ _ _ c.requires _ _ l.invariant.some c.loop-k-test.true l.auto.best l.invariant.bests
+note_child-requires c = let l = c.loop-k in noting _ _ _ c.requires _ _ (omega arith) (omega arith) l.auto.best l.invariant
 
 pub loop-k-preserved : goal.loop-k-preserved
-loop-k-preserved c = let l = c.loop-k in record { some = omega arith; within = omega arith; bests = turned _ _ _ c.requires _ _ l.invariant.some c.loop-k-test.true l.auto.best l.invariant.bests c.note_child.ensures }
+loop-k-preserved c = let l = c.loop-k in turned _ _ _ c.requires _ _ (omega arith) (omega arith) l.auto.best l.invariant c.note_child.ensures
 
 pub returns : goal.returns
-returns c = let all : c.loop-k.k ≡ c.args.count = le_antisymm c.loop-k.invariant.within c.loop-k-test.false in bests_all _ _ c.requires.tree _ (subst (λ (j : ℕ). BestsTo j c.args.nodes.now c.loop-k.best) all c.loop-k.invariant.bests)
+returns c =
+    let end : c.loop-k.k ≡ c.args.count = omega arith in
+    bests_all _ _ c.requires.tree _ (subst (λ (j : ℕ). BestsTo j c.args.nodes.now c.loop-k.best) end c.loop-k.invariant)

@@ -1,6 +1,6 @@
 -- `tree::few::way_len` meets its contract: what was counted, and what is left from record k on, make the whole.
 -- Assumes nothing.
-use Rattle.std.proofs.Common.{◌≡◌, ℕ, suc, ◌+◌, ◌<◌, List, length, ◌∙◌, zero-add, arith}
+use Rattle.std.proofs.Common.{◌≡◌, ℕ, suc, ◌+◌, ◌<◌, List, length, refl, ◌∙◌, zero-add, arith}
 use Rattle.tree.specs.inner.Few.{entry_at, Rises, way_of}
 use Rattle.tree.specs.laws.Few.{left_of, left_first, left_on, entry_inside, way_short}
 use Rattle.tree.proofs.few.way_len.Goals as goal
@@ -31,13 +31,13 @@ is : (c : In-loop-k) → Counted c.args.best.now c.loop-k.len c.loop-k.k
 is c = record { inside = c.loop-k.invariant.inside; whole = c.loop-k.invariant.whole }
 
 pub loop-k-init : goal.loop-k-init
-loop-k-init c = let s = starts _ c.requires c.best_at-k.ensures in record { inside = s.inside; whole = s.whole }
+loop-k-init c = let s = starts _ c.requires refl in record { inside = s.inside; whole = s.whole }
 
 pub overflow_add-len : goal.overflow_add-len
 overflow_add-len c = omega (arith, counts _ c.requires (is (goal.at.overflow_add-len c).In-loop-k) c.loop-k-test.true)
 
 pub loop-k-smaller : goal.loop-k-smaller
-loop-k-smaller c = less _ c.requires (is (goal.at.loop-k-smaller c).In-loop-k) c.loop-k-test.true c.best_at-k-in-loop-k.ensures
+loop-k-smaller c = less _ c.requires (is (goal.at.loop-k-smaller c).In-loop-k) c.loop-k-test.true refl
 
 pub loop-k-preserved : goal.loop-k-preserved
-loop-k-preserved c = let t = turns _ c.requires (is (goal.at.loop-k-preserved c).In-loop-k) c.loop-k-test.true c.best_at-k-in-loop-k.ensures in record { inside = t.inside; whole = t.whole }
+loop-k-preserved c = let t = turns _ c.requires (is (goal.at.loop-k-preserved c).In-loop-k) c.loop-k-test.true refl in record { inside = t.inside; whole = t.whole }

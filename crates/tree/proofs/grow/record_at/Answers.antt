@@ -1,22 +1,10 @@
--- `tree::grow::record_at` meets its contract: each refusal returns early.
+-- `tree::grow::record_at` meets its contract: a used number is that of a record.
 -- Assumes nothing.
-use Rattle.std.proofs.Common.{◌<◌, ap, refl, sym, ◌∙◌, arith, ltb-true}
-use Rattle.refusal.specs.laws.Judge.{answered, fails, holds}
-use Rattle.tree.specs.declared.grow.Recorded.TheVariants.{Record}
-use Rattle.tree.specs.laws.Tree.{tree_of}
+use Rattle.std.proofs.Common.{arith}
+use Rattle.tree.specs.laws.Tree.{checked_tree, checked_node}
 use Rattle.tree.proofs.grow.record_at.Goals as goal
 
-pub returns-then-not-sound : goal.returns-then-not-sound
-returns-then-not-sound c = fails (sym c.is_sound-sound.ensures ∙ c.if-not-sound.true)
-
-pub returns-then-not-used : goal.returns-then-not-used
-returns-then-not-used c = holds (sym c.is_sound-sound.ensures ∙ c.if-not-sound.false) (fails (sym c.is_used-used.ensures ∙ c.if-not-used.true))
-
-pub node_at-n-requires : goal.node_at-n-requires
-node_at-n-requires c =
-    let tree = tree_of (sym c.is_sound-sound.ensures ∙ c.if-not-sound.false) in
-    let below : c.args.k < c.args.count = ltb-true _ _ (sym c.is_used-used.ensures ∙ c.if-not-used.false) in
-    omega (arith, tree.room)
-
-pub returns : goal.returns
-returns c = holds (sym c.is_sound-sound.ensures ∙ c.if-not-sound.false) (holds (sym c.is_used-used.ensures ∙ c.if-not-used.false) (answered refl (ap Record c.node_at-n.ensures)))
+pub node_at-requires : goal.node_at-requires
+node_at-requires c =
+    let tree = checked_tree c.check_tree.ensures c.in_ok-check_tree.was in
+    omega (arith, tree.room, checked_node c.check_node.ensures c.in_ok-check_node.was)

@@ -1,11 +1,8 @@
 -- `tree::scan::is_sound` meets its contract: the records before the next are sound.
 -- Assumes nothing.
-use Rattle.std.proofs.Common.{◌≡◌, ◌≤◌, ◌-◌, true}
+use Rattle.std.proofs.Common.{◌≡◌, true}
 use Rattle.tree.specs.Tree.{sound_to}
 use Rattle.tree.proofs.scan.is_sound.Given as goal
 
 abbrev pub invariant-loop-k : goal.invariant-loop-k
-invariant-loop-k l = record { within : l.k ≤ l.count; sound : sound_to l.k l.nodes ≡ true }
-
-abbrev pub decreases-loop-k : goal.decreases-loop-k
-decreases-loop-k l = l.count - l.k
+invariant-loop-k l = sound_to l.k l.nodes ≡ true
