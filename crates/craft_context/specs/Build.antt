@@ -1,9 +1,8 @@
 -- Document 01, "Context": what is built from player, recipe and options; "Limits": "Building a context: ..; then the context limits."
 -- Assumes nothing.
-use Rattle.std.specs.Prelude.{ℕ, Bool, List, ◌++◌, nat_le, refl}
-use Rattle.refusal.specs.declared.Report.{Report}
-use Rattle.refusal.specs.Report.{report_of, success}
-use Rattle.refusal.specs.Judge.{Kind, Says}
+use Rattle.std.specs.Prelude.{ℕ, Bool, List, ◌++◌, nat_le, Option, Some, None, Result, Ok}
+use Rattle.refusal.specs.declared.Refusal.{Refusal}
+use Rattle.refusal.specs.Judge.{Says, answering}
 use Rattle.refusal.specs.Limits.{limit_tests}
 use Rattle.craft_context.specs.Limits.{player_limits, recipe_limits, options_limits, context_limits}
 use Rattle.craft_context.specs.Factor.{factor_of, progress_plus, quality_plus}
@@ -12,15 +11,11 @@ use Rattle.craft_context.specs.declared.context.CraftContext.{CraftContext}
 use Rattle.craft_context.specs.declared.sheet.Player.{Player}
 use Rattle.craft_context.specs.declared.sheet.Recipe.{Recipe}
 use Rattle.craft_context.specs.declared.sheet.CraftOptions.{CraftOptions}
-use Rattle.craft_context.specs.declared.sheet.Given.{Given}
-use Rattle.craft_context.specs.declared.sheet.Given.TheVariants as G
-use Rattle.craft_context.specs.declared.build.Built.{Built}
-use Rattle.craft_context.specs.declared.build.Built.TheVariants as B
 
 -- an option's number, or another where it gives none
-abbrev pub given_or : Given → ℕ → ℕ
-given_or (G.Value n) other = n
-given_or G.Nothing other = other
+abbrev pub given_or : Option ℕ → ℕ → ℕ
+given_or (Some n) other = n
+given_or None other = other
 
 -- the player's level is at most the recipe's: then the modifier counts
 abbrev pub is_scaled : Player → Recipe → Bool
@@ -50,17 +45,10 @@ built_of player recipe options =
 
 -- ---- the entry
 
-abbrev built_told : Built → Report
-built_told (B.Context c) = success
-built_told (B.Refused x) = report_of x
-
-abbrev pub built : Kind Built
-built = record { told = built_told; refused = B.Refused; refusing = λ x. refl }
-
 -- the numbers to build from come first, and then the context that they give
 abbrev pub builder_limits : Player → Recipe → CraftOptions → List Bool
 builder_limits player recipe options =
     player_limits player ++ (recipe_limits recipe ++ (options_limits options ++ context_limits (built_of player recipe options)))
 
-abbrev pub New : Player → Recipe → CraftOptions → Built → Type 0
-New player recipe options r = Says built (limit_tests (builder_limits player recipe options)) (B.Context (built_of player recipe options)) r
+abbrev pub New : Player → Recipe → CraftOptions → Result CraftContext Refusal → Type 0
+New player recipe options r = Says answering (limit_tests (builder_limits player recipe options)) (Ok (built_of player recipe options)) r

@@ -2,8 +2,7 @@
 -- `CraftContext` order for a context, and for the builder player's four, then recipe and options fields in source order, then the built context's".
 -- Assumes nothing.
 use Rattle.std.specs.Prelude.{◌≡◌, ℕ, ◌≤◌, Bool, true, false, ◌&&◌, List, [], ◌∷◌, ℤ, pos, negsuc, nat_le}
-use Rattle.refusal.specs.Judge.{Test, Checks}
-use Rattle.refusal.specs.declared.Checked.{Checked}
+use Rattle.refusal.specs.Judge.{Test, Checked, Checks}
 use Rattle.refusal.specs.Limits.{free, limit_tests}
 use Rattle.action.specs.Limits.{factor_most, target_most}
 use Rattle.action_set.specs.Sets.{SetIn, is_set}

@@ -1,13 +1,13 @@
 // The context, and the test of any context against its limits.
 ghost use Rattle.std.specs.Prelude.{◌≡◌, ◌≤◌, pos};
-ghost use Rattle.refusal.specs.Judge.{checks_of};
-ghost use Rattle.refusal.specs.Limits.{limits_from};
+ghost use Rattle.refusal.specs.Judge.{checked_of, checks_of};
+ghost use Rattle.refusal.specs.Limits.{limit_test, limits_from};
 ghost use Rattle.craft_context.specs.Limits.{durable, context_limits, ChecksContext};
 ghost use Rattle.craft_context.specs.inner.Build.{context_first};
 
 use super::place;
 use action_set::ActionSet;
-use refusal::{Checked, Refusal};
+use refusal::Refusal;
 
 #[derive(Clone, Copy)]
 pub struct CraftContext {
@@ -32,19 +32,23 @@ pub struct CraftContext {
 pub fn lasts(n: u32) -> bool
     ensures { result ≡ durable (pos n) }
 {
-    if n < 1 {
-        return false;
-    }
-    n <= CraftContext::DURABILITY_MOST
+    (1..=CraftContext::DURABILITY_MOST).contains(&n)
 }
 
 fn is_durable(z: i8) -> bool
     ensures { result ≡ durable z }
 {
-    if z < 0 {
-        return false;
+    u32::try_from(z).is_ok_and(lasts)
+}
+
+// Refusal 1 of one field, if it is not inside its limit, with its place.
+pub fn within(inside: bool, place: usize) -> Result<(), Refusal>
+    ensures { result ≡ checked_of (limit_test place inside) }
+{
+    if inside {
+        return Ok(());
     }
-    lasts(z as u32)
+    Err(Refusal::OutsideLimits(place))
 }
 
 impl CraftContext {
@@ -63,42 +67,45 @@ impl CraftContext {
     pub const DURABILITY_MOST: u32 = 97;
 
     // Refusal 1: a field is outside its limit.
-    pub fn check(self) -> Checked
+    pub fn check(self) -> Result<(), Refusal>
         ensures { ChecksContext self result }
     {
-        check_from(self, 0)
+        self.check_from(0)
     }
-}
 
-// For the first field that is outside, with its place, where the first field of all has the place `first`. Levels, steps and flags have no limit.
-pub fn check_from(context: CraftContext, first: usize) -> Checked
-    requires { first ≤ context_first }
-    ensures { result ≡ checks_of (limits_from first 0 (context_limits context)) }
-{
-    if context.base_progress_factor > CraftContext::FACTOR_MOST {
-        return Checked::Refused(Refusal::OutsideLimits(first + place::BASE_PROGRESS_FACTOR));
+    // Where the first field of all has the place `from`. Levels, steps and flags have no limit.
+    pub fn check_from(self, from: usize) -> Result<(), Refusal>
+        requires { from ≤ context_first }
+        ensures { result ≡ checks_of (limits_from from 0 (context_limits self)) }
+    {
+        within(
+            self.base_progress_factor <= Self::FACTOR_MOST,
+            from + place::BASE_PROGRESS_FACTOR,
+        )?;
+        within(
+            self.base_quality_factor <= Self::FACTOR_MOST,
+            from + place::BASE_QUALITY_FACTOR,
+        )?;
+        within(
+            self.progress_target <= Self::TARGET_MOST,
+            from + place::PROGRESS_TARGET,
+        )?;
+        within(
+            self.starting_quality <= Self::TARGET_MOST,
+            from + place::STARTING_QUALITY,
+        )?;
+        within(
+            self.quality_target <= Self::TARGET_MOST,
+            from + place::QUALITY_TARGET,
+        )?;
+        within(
+            is_durable(self.durability_max),
+            from + place::DURABILITY_MAX,
+        )?;
+        within(self.cp_max <= Self::TARGET_MOST, from + place::CP_MAX)?;
+        within(
+            self.action_pool.0 < ActionSet::LIMIT,
+            from + place::ACTION_POOL,
+        )
     }
-    if context.base_quality_factor > CraftContext::FACTOR_MOST {
-        return Checked::Refused(Refusal::OutsideLimits(first + place::BASE_QUALITY_FACTOR));
-    }
-    if context.progress_target > CraftContext::TARGET_MOST {
-        return Checked::Refused(Refusal::OutsideLimits(first + place::PROGRESS_TARGET));
-    }
-    if context.starting_quality > CraftContext::TARGET_MOST {
-        return Checked::Refused(Refusal::OutsideLimits(first + place::STARTING_QUALITY));
-    }
-    if context.quality_target > CraftContext::TARGET_MOST {
-        return Checked::Refused(Refusal::OutsideLimits(first + place::QUALITY_TARGET));
-    }
-    if !is_durable(context.durability_max) {
-        return Checked::Refused(Refusal::OutsideLimits(first + place::DURABILITY_MAX));
-    }
-    if context.cp_max > CraftContext::TARGET_MOST {
-        return Checked::Refused(Refusal::OutsideLimits(first + place::CP_MAX));
-    }
-    let pool = context.action_pool;
-    if pool.0 >= ActionSet::LIMIT {
-        return Checked::Refused(Refusal::OutsideLimits(first + place::ACTION_POOL));
-    }
-    Checked::Passed
 }

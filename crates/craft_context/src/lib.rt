@@ -1,6 +1,6 @@
 // The context of a craft: what stays as it is while the craft goes on, its limits, and how it is built.
 
-#![tactic(auto)]
+#![tactic(auto, unfolding(refusal::specs::Judge::judged))]
 
 mod build;
 mod context;
@@ -9,6 +9,5 @@ pub mod place;
 mod pool;
 mod sheet;
 
-pub use build::Built;
-pub use context::{CraftContext, lasts};
-pub use sheet::{CraftOptions, Given, Player, Recipe};
+pub use context::{CraftContext, lasts, within};
+pub use sheet::{CraftOptions, Player, Recipe};

@@ -23,18 +23,11 @@ pub struct Recipe {
     pub conditions_flag: u32,
 }
 
-// A number that an option may give.
-#[derive(Clone, Copy)]
-pub enum Given {
-    Value(u32),
-    Nothing,
-}
-
 #[derive(Clone, Copy)]
 pub struct CraftOptions {
     pub max_steps: u8,
-    pub starting_quality: Given,
-    pub quality_target: Given,
+    pub starting_quality: Option<u32>,
+    pub quality_target: Option<u32>,
     pub player_is_specialist: bool,
     pub use_manipulation: bool,
     pub use_delineation: bool,

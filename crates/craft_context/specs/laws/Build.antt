@@ -4,6 +4,7 @@ use Rattle.std.proofs.Common.{sym, leb-true, lit≤}
 use Rattle.std.specs.Prelude.{ℕ, ◌≤◌, [], ◌++◌, nat_le, refl}
 use Rattle.laws.specs.laws.Tests.{both}
 use Rattle.refusal.specs.Demands.{TellsFirst}
+use Rattle.refusal.specs.Judge.{answering}
 use Rattle.refusal.specs.laws.Limits.{all_inside, tells_first}
 use Rattle.action.specs.Limits.{factor_most}
 use Rattle.action_set.specs.Sets.{SetIn}
@@ -11,7 +12,7 @@ use Rattle.action_set.specs.laws.Sets.{set_inside}
 use Rattle.craft_context.specs.Limits.{div_most, player_limits, recipe_limits}
 use Rattle.craft_context.specs.Factor.{progress_plus, quality_plus}
 use Rattle.craft_context.specs.Pool.{in_pool}
-use Rattle.craft_context.specs.Build.{is_scaled, built_of, builder_limits, built, New}
+use Rattle.craft_context.specs.Build.{is_scaled, built_of, builder_limits, New}
 use Rattle.craft_context.specs.inner.Factor.{Bounded}
 use Rattle.craft_context.specs.inner.Build.{Buildable}
 use Rattle.craft_context.specs.laws.Factor.{factor_most_lem}
@@ -44,7 +45,7 @@ module _ (player : Player) (recipe : Recipe) {plus : ℕ} (small : plus ≤ qual
       )
 
 -- a refusal tells the first field outside, of what a context is built from and of the built one
-pub builder_first : (player : Player) (recipe : Recipe) (options : CraftOptions) → TellsFirst built.told (builder_limits player recipe options) (New player recipe options)
+pub builder_first : (player : Player) (recipe : Recipe) (options : CraftOptions) → TellsFirst answering.told (builder_limits player recipe options) (New player recipe options)
 builder_first player recipe options = tells_first [] (builder_limits player recipe options) [] refl refl
 
 -- the built context's factors and pool are always inside: no refusal tells their places

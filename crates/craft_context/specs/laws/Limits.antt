@@ -4,9 +4,7 @@ use Rattle.std.specs.Prelude.{◌≡◌, ◌<◌, ◌≤◌, true, [], ℤ, pos,
 use Rattle.std.proofs.Common.{sym, ◌∙◌, arith, le-leb, lt-ltb, leb-true, ltb-true}
 use Rattle.laws.specs.laws.Tests.{true_false, both}
 use Rattle.laws.specs.laws.Raise.{raise}
-use Rattle.refusal.specs.declared.Checked.{Checked}
-use Rattle.refusal.specs.declared.Checked.TheVariants.{Passed}
-use Rattle.refusal.specs.Judge.{judged, checks_of, checking}
+use Rattle.refusal.specs.Judge.{judged, Checked, pass, checks_of, answering}
 use Rattle.refusal.specs.Demands.{TellsFirst}
 use Rattle.refusal.specs.laws.Limits.{all_inside, tells_first}
 use Rattle.craft_context.specs.Limits.{durable, durability_most, context_limits, context_tests, ChecksContext, ContextIn}
@@ -20,7 +18,7 @@ durable_raised (pos n) e =
 durable_raised (negsuc k) e = absurd (true_false (sym e))
 
 -- a context is inside its limits exactly where each of its tests passes
-pub context_in_lem : (c : CraftContext) {checked : Checked} → checked ≡ checks_of (context_tests c) → checked ≡ Passed → ContextIn c
+pub context_in_lem : (c : CraftContext) {checked : Checked} → checked ≡ checks_of (context_tests c) → checked ≡ pass → ContextIn c
 context_in_lem c e p =
     let inside = all_inside (context_limits c) (sym p ∙ e) in
     record {
@@ -34,7 +32,7 @@ context_in_lem c e p =
       pool = ltb-true _ _ (inside 11);
     }
 
-pub context_passes : (c : CraftContext) → ContextIn c → checks_of (context_tests c) ≡ Passed
+pub context_passes : (c : CraftContext) → ContextIn c → checks_of (context_tests c) ≡ pass
 unfolding judged
 context_passes c i =
     simp (
@@ -49,5 +47,5 @@ context_passes c i =
     )
 
 -- its refusal tells the first field outside
-pub context_first_lem : (c : CraftContext) → TellsFirst checking.told (context_limits c) (ChecksContext c)
+pub context_first_lem : (c : CraftContext) → TellsFirst answering.told (context_limits c) (ChecksContext c)
 context_first_lem c = tells_first [] (context_limits c) [] refl refl
