@@ -3,8 +3,8 @@
 #![tactic(auto)]
 
 ghost use Rattle.std.specs.Prelude.{◌≡◌};
-ghost use Rattle.rates.specs.Best.{no_best, better_of};
-ghost use Rattle.rates.specs.inner.Holds.{Holds, Asks};
+ghost use Rattle.rates.specs.Best.{rated, better_of};
+ghost use Rattle.rates.specs.inner.Holds.{Kept, Asks};
 
 // What the ucb1 of all children of one record share: two weights, and the logarithm of the record's visits.
 #[derive(Clone, Copy)]
@@ -14,7 +14,7 @@ pub struct Weights {
     pub ln: f32,
 }
 
-// The best child so far, with its ucb1 and the part of it that was gained; 0 where there is none, since record 0 is no child.
+// The best child so far, with its ucb1 and the part of it that was gained.
 #[derive(Clone, Copy)]
 pub struct Best {
     pub at: usize,
@@ -23,23 +23,22 @@ pub struct Best {
     pub gained: f32,
 }
 
-impl Best {
-    pub fn none() -> Best
-        ensures { result ≡ no_best }
-    {
-        Best {
-            at: 0,
-            rate: 0.0,
-            visits: 0.0,
-            gained: 0.0,
-        }
+// Child k, with its root worked out.
+fn rated(k: usize, visits: f32, gained: f32, weights: Weights) -> Best
+    ensures { result ≡ rated k visits gained weights }
+{
+    Best {
+        at: k,
+        rate: gained + ucb1::exploration(weights.c, weights.ln, visits),
+        visits,
+        gained,
     }
 }
 
 // The best child, when child k comes after those that it was found among. One that was visited no less and gained no more than the best is no
 // better, so its root is not worked out.
 pub fn better(
-    best: Best,
+    best: Option<Best>,
     k: usize,
     visits: f32,
     score_sum: f32,
@@ -47,20 +46,15 @@ pub fn better(
     weights: Weights,
 ) -> Best
     requires { Asks best visits score_sum max_score weights }
-    ensures { (result ≡ better_of best k visits score_sum max_score weights) × Holds weights result }
+    ensures { (result ≡ better_of best k visits score_sum max_score weights) × Kept weights result }
 {
     let gained = ucb1::exploitation(weights.w, visits, score_sum, max_score);
-    if (best.at != 0) & (best.visits <= visits) & (gained <= best.gained) {
+    let Some(best) = best else {
+        return rated(k, visits, gained, weights);
+    };
+    if (best.visits <= visits) & (gained <= best.gained) {
         return best;
     }
-    let rate = gained + ucb1::exploration(weights.c, weights.ln, visits);
-    if (best.at == 0) | (best.rate < rate) {
-        return Best {
-            at: k,
-            rate: rate,
-            visits: visits,
-            gained: gained,
-        };
-    }
-    best
+    let child = rated(k, visits, gained, weights);
+    if best.rate < child.rate { child } else { best }
 }
