@@ -14,7 +14,7 @@ gained_of visits sum maximum weights = exploitation_of weights.w visits sum maxi
 abbrev pub rate_of : Float → Float → Float → Weights → Float
 rate_of visits sum maximum weights = ucb1_of weights.w weights.c weights.ln visits sum maximum
 
--- child k, whose visits and weights with what it gained are its ucb1
+-- child k, from what it gained
 abbrev pub rated : ℕ → Float → Float → Weights → Best
 rated k visits gained weights = record { at = k; rate = add binary32 gained (exploration_of weights.c weights.ln visits); visits = visits; gained = gained }
 
