@@ -1,9 +1,8 @@
 -- Document 01's "Limits", of a state, field by field in order, and refusal 2.
 -- Assumes nothing.
-use Rattle.std.specs.Prelude.{Bool, true, false, ◌&&◌, List, [], ◌∷◌, ◌++◌, ℕ, leb, ltb, eqb, ℤ, negsuc}
+use Rattle.std.specs.Prelude.{Bool, true, false, ◌&&◌, List, [], ◌∷◌, ◌++◌, ℕ, leb, ltb, eqb, ℤ, negsuc, Option, Some, None}
 use Rattle.std.specs.Int.Signed.{le_z}
-use Rattle.refusal.specs.Judge.{Test, Checks}
-use Rattle.refusal.specs.declared.Checked.{Checked}
+use Rattle.refusal.specs.Judge.{Test, Checked, Checks}
 use Rattle.refusal.specs.declared.Refusal.TheVariants.{StateOutOfRange}
 use Rattle.action.specs.Actions as A
 use Rattle.action.specs.Known.{actions}
@@ -14,8 +13,6 @@ use Rattle.craft_context.specs.declared.context.CraftContext.{CraftContext}
 use Rattle.craft_context.specs.Limits.{context_tests}
 use Rattle.craft_state.specs.declared.buffs.Buffs.{Buffs}
 use Rattle.craft_state.specs.declared.state.CraftState.{CraftState}
-use Rattle.craft_state.specs.declared.state.Last.{Last}
-use Rattle.craft_state.specs.declared.state.Last.TheVariants as L
 
 abbrev pub step_least : ℕ
 step_least = 1
@@ -64,20 +61,20 @@ buffs_inside b =
 
 -- ---- the last action, and the combo, which is none or the last action
 
-abbrev pub was_of : Last → ℕ → Bool
-was_of L.Nothing n = false
-was_of (L.Was m) n = eqb m n
+abbrev pub was_of : Option ℕ → ℕ → Bool
+was_of None n = false
+was_of (Some m) n = eqb m n
 
-abbrev pub last_known : Last → Bool
-last_known L.Nothing = true
-last_known (L.Was n) = ltb n actions
+abbrev pub last_known : Option ℕ → Bool
+last_known None = true
+last_known (Some n) = ltb n actions
 
-abbrev pub combo_agrees : Combo → Last → Bool
-combo_agrees C.Nothing last = true
-combo_agrees C.BasicTouch last = was_of last A.BasicTouch
-combo_agrees C.StandardTouch last = was_of last A.StandardTouch
-combo_agrees C.RefinedTouch last = was_of last A.RefinedTouch
-combo_agrees C.Observe last = was_of last A.Observe
+abbrev pub combo_agrees : Option Combo → Option ℕ → Bool
+combo_agrees None last = true
+combo_agrees (Some C.BasicTouch) last = was_of last A.BasicTouch
+combo_agrees (Some C.StandardTouch) last = was_of last A.StandardTouch
+combo_agrees (Some C.RefinedTouch) last = was_of last A.RefinedTouch
+combo_agrees (Some C.Observe) last = was_of last A.Observe
 
 -- ---- a state in a context; flags and perfection are any
 

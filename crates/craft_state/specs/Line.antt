@@ -6,11 +6,15 @@ use Rattle.text.specs.Decimal.{decimal_of, signed_of, right_of}
 use Rattle.craft_context.specs.declared.context.CraftContext.{CraftContext}
 use Rattle.craft_state.specs.declared.state.CraftState.{CraftState}
 
-unfoldable pub share_of : ℕ → ℕ → ℕ → List ℕ → List ℕ
-share_of width part most unit = right_of width (decimal_of part) ++ bytes "/" ++ right_of width (decimal_of most) ++ unit
+-- by the texts of both numbers
+unfoldable pub part_of : ℕ → List ℕ → List ℕ → List ℕ → List ℕ
+part_of width part most unit = right_of width part ++ bytes "/" ++ right_of width most ++ unit
 
-unfoldable pub signed_share_of : ℕ → ℤ → ℤ → List ℕ → List ℕ
-signed_share_of width part most unit = right_of width (signed_of part) ++ bytes "/" ++ right_of width (signed_of most) ++ unit
+abbrev pub share_of : ℕ → ℕ → ℕ → List ℕ → List ℕ
+share_of width part most unit = part_of width (decimal_of part) (decimal_of most) unit
+
+abbrev pub signed_share_of : ℕ → ℤ → ℤ → List ℕ → List ℕ
+signed_share_of width part most unit = part_of width (signed_of part) (signed_of most) unit
 
 unfoldable pub display_of : CraftContext → CraftState → List ℕ
 display_of c s =

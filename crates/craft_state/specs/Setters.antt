@@ -1,11 +1,10 @@
 -- A state with one field changed: what each part of document 01's "One action" is said by.
 -- A field that is added to a state is a line in each of these.
 -- Assumes nothing.
-use Rattle.std.specs.Prelude.{Bool, ℕ, ℤ}
+use Rattle.std.specs.Prelude.{Bool, ℕ, ℤ, Option}
 use Rattle.action.specs.declared.price.Combo.{Combo}
 use Rattle.craft_state.specs.declared.buffs.Buffs.{Buffs}
 use Rattle.craft_state.specs.declared.state.CraftState.{CraftState}
-use Rattle.craft_state.specs.declared.state.Last.{Last}
 use Rattle.craft_state.specs.declared.state.Perfection.{Perfection}
 
 abbrev pub with_step : ℕ → CraftState → CraftState
@@ -83,7 +82,7 @@ with_cp cp s =
       action = s.action;
     }
 
-abbrev pub with_combo : Combo → CraftState → CraftState
+abbrev pub with_combo : Option Combo → CraftState → CraftState
 with_combo combo s =
     record {
       step = s.step;
@@ -143,7 +142,7 @@ with_buffs buffs s =
       action = s.action;
     }
 
-abbrev pub with_action : Last → CraftState → CraftState
+abbrev pub with_action : Option ℕ → CraftState → CraftState
 with_action action s =
     record {
       step = s.step;

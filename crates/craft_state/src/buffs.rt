@@ -3,7 +3,7 @@ ghost use Rattle.std.specs.Prelude.{◌≡◌};
 ghost use Rattle.craft_state.specs.Limits.{buffs_inside};
 ghost use Rattle.craft_state.specs.Start.{no_buffs};
 
-#[derive(Clone, Copy)]
+#[derive(Clone, Copy, Debug, PartialEq, Eq)]
 pub struct Buffs {
     pub inner_quiet: u8,
     pub waste_not: u8,

@@ -1,40 +1,30 @@
 // The line of a state, as the Rust's Display writes it.
 ghost use Rattle.std.specs.Prelude.{◌+◌, ◌≤◌, length};
 ghost use Rattle.text.specs.Over.{Put};
-ghost use Rattle.craft_state.specs.Line.{share_of, signed_share_of, share_most, signed_share_most, display_of, line_most};
+ghost use Rattle.craft_state.specs.Line.{part_of, share_most, display_of, line_most};
 
 use super::state::CraftState;
 use craft_context::CraftContext;
+use text::Decimal;
 
 // What a line takes at most.
 pub const LINE_MOST: usize = 126;
 
 // A part of a most, right-aligned, and the unit.
-fn put_share(out: &mut [u8], at: usize, part: u32, most: u32, width: usize, unit: &[u8]) -> usize
+fn put_share<T: Decimal>(
+    out: &mut [u8],
+    at: usize,
+    part: T,
+    most: T,
+    width: usize,
+    unit: &[u8],
+) -> usize
     requires { (at + share_most + length unit.now ≤ length out.old) × (width ≤ 10) }
-    ensures { Put out.old at (share_of width part most unit.now) result out.new × (result ≤ at + share_most + length unit.now) }
+    ensures { Put out.old at (part_of width (T.text part) (T.text most) unit.now) result out.new × (result ≤ at + share_most + length unit.now) }
 {
     let slash = text::put_number(out, at, part, width);
     let right = text::put_byte(out, slash, b'/');
     let end = text::put_number(out, right, most, width);
-    text::put(out, end, unit)
-}
-
-// The same of durability, which may be negative.
-fn put_signed_share(
-    out: &mut [u8],
-    at: usize,
-    part: i8,
-    most: i8,
-    width: usize,
-    unit: &[u8],
-) -> usize
-    requires { (at + signed_share_most + length unit.now ≤ length out.old) × (width ≤ 10) }
-    ensures { Put out.old at (signed_share_of width part most unit.now) result out.new × (result ≤ at + signed_share_most + length unit.now) }
-{
-    let slash = text::put_signed(out, at, part, width);
-    let right = text::put_byte(out, slash, b'/');
-    let end = text::put_signed(out, right, most, width);
     text::put(out, end, unit)
 }
 
@@ -58,7 +48,7 @@ pub fn put_line(context: CraftContext, state: CraftState, out: &mut [u8], at: us
         5,
         b" quality | ",
     );
-    let cp = put_signed_share(
+    let cp = put_share(
         out,
         durability,
         state.durability,

@@ -1,6 +1,6 @@
 // The state of a craft: its fields, their ranges, where it starts, and its line. The context is a value of its own beside it.
 
-#![tactic(auto)]
+#![tactic(auto, unfolding(refusal::specs::Judge::judged))]
 
 mod buffs;
 mod display;
@@ -9,4 +9,4 @@ mod state;
 
 pub use buffs::Buffs;
 pub use display::{LINE_MOST, put_line};
-pub use state::{CraftState, Last, Perfection, Started, fresh, renewed};
+pub use state::{CraftState, Perfection, fresh, renewed};

@@ -1,73 +1,54 @@
 // Refusal 2: a state field is outside its range.
 ghost use Rattle.std.specs.Prelude.{◌≡◌};
-ghost use Rattle.craft_state.specs.Limits.{was_of, combo_agrees, last_known, state_inside, ChecksState};
+ghost use Rattle.craft_state.specs.Limits.{combo_agrees, last_known, state_inside, ChecksState};
 
-use super::state::{CraftState, Last};
+use super::state::CraftState;
 use action::Combo;
 use craft_context::CraftContext;
-use refusal::{Checked, Refusal};
-
-// Whether the last action was this one.
-fn was(last: Last, n: u8) -> bool
-    ensures { result ≡ was_of last n }
-{
-    match last {
-        Last::Nothing => false,
-        Last::Was(m) => m == n,
-    }
-}
+use refusal::Refusal;
 
 // A combo is the last action's.
-fn agrees(combo: Combo, last: Last) -> bool
+fn agrees(combo: Option<Combo>, last: Option<u8>) -> bool
     ensures { result ≡ combo_agrees combo last }
 {
     match combo {
-        Combo::Nothing => true,
-        Combo::BasicTouch => was(last, action::BASIC_TOUCH),
-        Combo::StandardTouch => was(last, action::STANDARD_TOUCH),
-        Combo::RefinedTouch => was(last, action::REFINED_TOUCH),
-        Combo::Observe => was(last, action::OBSERVE),
+        None => true,
+        Some(Combo::BasicTouch) => last == Some(action::BASIC_TOUCH),
+        Some(Combo::StandardTouch) => last == Some(action::STANDARD_TOUCH),
+        Some(Combo::RefinedTouch) => last == Some(action::REFINED_TOUCH),
+        Some(Combo::Observe) => last == Some(action::OBSERVE),
     }
 }
 
-fn is_known(last: Last) -> bool
+fn is_known(last: Option<u8>) -> bool
     ensures { result ≡ last_known last }
 {
-    match last {
-        Last::Nothing => true,
-        Last::Was(n) => n < action::ACTIONS,
-    }
+    last.is_none_or(|n| n < action::ACTIONS)
 }
 
 fn is_inside(context: CraftContext, state: CraftState) -> bool
     ensures { result ≡ state_inside context state }
 {
-    let combo = state.previous_combo_action;
-    let buffs = state.buffs;
-    let last = state.action;
     (state.step >= CraftState::STEP_LEAST)
         & (state.progress <= CraftState::AMOUNT_MOST)
         & (state.quality <= CraftState::AMOUNT_MOST)
         & (state.durability >= CraftState::DURABILITY_LEAST)
         & (state.durability <= context.durability_max)
         & (state.cp <= context.cp_max)
-        & agrees(combo, last)
-        & buffs.are_inside()
-        & is_known(last)
+        & agrees(state.previous_combo_action, state.action)
+        & state.buffs.are_inside()
+        & is_known(state.action)
 }
 
 impl CraftState {
     // Refusal 1 of the context, then refusal 2.
-    pub fn check(self, context: CraftContext) -> Checked
+    pub fn check(self, context: CraftContext) -> Result<(), Refusal>
         ensures { ChecksState context self result }
     {
-        let inside = context.check();
-        if let Checked::Refused(x) = inside {
-            return Checked::Refused(x);
-        }
+        context.check()?;
         if is_inside(context, self) {
-            return Checked::Passed;
+            return Ok(());
         }
-        Checked::Refused(Refusal::StateOutOfRange)
+        Err(Refusal::StateOutOfRange)
     }
 }

@@ -6,9 +6,7 @@ use Rattle.std.specs.Int.{w8}
 use Rattle.std.proofs.lemmas.Int.{to_z-of_z}
 use Rattle.laws.specs.laws.Tests.{both}
 use Rattle.laws.specs.laws.Raise.{raise, le_raise, raise_le, fits8}
-use Rattle.refusal.specs.declared.Checked.{Checked}
-use Rattle.refusal.specs.declared.Checked.TheVariants.{Passed}
-use Rattle.refusal.specs.Judge.{checks_of}
+use Rattle.refusal.specs.Judge.{Checked, pass, checks_of}
 use Rattle.refusal.specs.laws.Judge.{shown, shown_by}
 use Rattle.craft_context.specs.declared.context.CraftContext.{CraftContext}
 use Rattle.craft_context.specs.Limits.{durable, durability_most, ContextIn, context_tests}
@@ -89,7 +87,7 @@ in_state context state h =
 
 -- the tests that an entry makes first
 pub craft_in : (context : CraftContext) (state : CraftState) {checked : Checked}
-    → checked ≡ checks_of (given_tests context state) → checked ≡ Passed → CraftIn context state
+    → checked ≡ checks_of (given_tests context state) → checked ≡ pass → CraftIn context state
 craft_in context state e p =
     let parts = shown_by (context_tests context) (state_test context state ∷ []) e p in
     let inside = context_in_lem context parts.0 p in

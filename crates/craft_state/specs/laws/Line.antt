@@ -7,13 +7,13 @@ use Rattle.text.specs.Decimal.{decimal_of, signed_of, right_of}
 use Rattle.text.specs.laws.Lengths.{decimal_most, signed_most, right_length}
 use Rattle.craft_context.specs.declared.context.CraftContext.{CraftContext}
 use Rattle.craft_state.specs.declared.state.CraftState.{CraftState}
-use Rattle.craft_state.specs.Line.{share_of, signed_share_of, share_most, signed_share_most, display_of, line_most}
+use Rattle.craft_state.specs.Line.{part_of, share_of, signed_share_of, share_most, signed_share_most, display_of, line_most}
 
 right_most : (w : ℕ) (text : List ℕ) {most : ℕ} → w ≤ 10 → 10 ≤ most → length text ≤ most → length (right_of w text) ≤ most
 right_most w text a b h = omega (arith, right_length w text)
 
 share_short : (w part most : ℕ) (unit : List ℕ) → w ≤ 10 → length (share_of w part most unit) ≤ share_most + length unit
-unfolding share_of
+unfolding part_of
 share_short w part most unit h =
     simp length-append
     (omega (
@@ -23,7 +23,7 @@ share_short w part most unit h =
     ))
 
 signed_share_short : (w : ℕ) (part most : ℤ) (unit : List ℕ) → w ≤ 10 → length (signed_share_of w part most unit) ≤ signed_share_most + length unit
-unfolding signed_share_of
+unfolding part_of
 signed_share_short w part most unit h =
     simp length-append
     (omega (
@@ -51,5 +51,5 @@ worked : (share_of 5 150 200 (bytes " progress | ") ≡ bytes "  150/  200 progr
     × (signed_share_of 2 (negsuc 18) (pos 97) (bytes " durability | ") ≡ bytes "-19/97 durability | ")
     × (signed_share_of 2 (pos 5) (pos 40) (bytes " durability | ") ≡ bytes " 5/40 durability | ")
     × (share_of 3 82 100 (bytes " cp") ≡ bytes " 82/100 cp")
-unfolding share_of signed_share_of right_of decimal_of signed_of
+unfolding part_of right_of decimal_of signed_of
 worked = (refl, refl, refl, refl, refl)
