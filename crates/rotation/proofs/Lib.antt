@@ -1,3 +1,5 @@
 -- What several proofs share.
 -- Assumes nothing.
+mod Next
+mod Rules
 mod Scan

@@ -1,10 +1,9 @@
 -- Document 01, refusal 5, 'the first's byte offset': the start of the first word that is no name, said of the text and not of its words.
 -- No contract cites it: the theorem `unknown_first` says that the definition's offset is this one, and `first_unknown_lem` that no other is.
 -- Assumes nothing.
-use Rattle.std.specs.Prelude.{◌≡◌, true, List, ℕ, zero, suc, ◌<◌, length, take, drop, get_or}
+use Rattle.std.specs.Prelude.{None, ◌≡◌, true, List, ℕ, zero, suc, ◌<◌, length, take, drop, get_or}
 use Rattle.laws.specs.Lists.{front}
 use Rattle.action.specs.Names.{found_of}
-use Rattle.action.specs.declared.names.Found.TheVariants.{Nothing}
 use Rattle.rotation.specs.Gaps.{gap, letter}
 use Rattle.rotation.specs.Words.{words_known}
 
@@ -20,5 +19,5 @@ word_at text k = take (front letter (drop k text)) (drop k text)
 pub record FirstUnknown (text : List ℕ) (k : ℕ) : Type 0 where
   pub starts : StartsAt text k
   pub some : 0 < length (word_at text k)
-  pub unknown : found_of (word_at text k) ≡ Nothing
+  pub unknown : found_of (word_at text k) ≡ None
   pub before : words_known (take k text) ≡ true

@@ -1,11 +1,9 @@
 -- Document 01, 'Text': 'a list is words .., each exactly a name', and refusal 5, an 'unknown word', with 'the first's byte offset'.
 -- Assumes nothing.
-use Rattle.std.specs.Prelude.{Bool, true, cond, ◌&&◌, List, [], ◌∷◌, ◌++◌, ℕ, ◌+◌, length}
+use Rattle.std.specs.Prelude.{Option, Some, None, Bool, true, cond, ◌&&◌, List, [], ◌∷◌, ◌++◌, ℕ, ◌+◌, length}
 use Rattle.refusal.specs.Judge.{Test}
 use Rattle.refusal.specs.declared.Refusal.TheVariants.{UnknownWord}
 use Rattle.action.specs.Names.{found_of, is_found}
-use Rattle.action.specs.declared.names.Found.{Found}
-use Rattle.action.specs.declared.names.Found.TheVariants.{Action, Nothing}
 use Rattle.rotation.specs.Gaps.{gap}
 
 -- ---- the words of a text
@@ -13,7 +11,7 @@ use Rattle.rotation.specs.Gaps.{gap}
 -- where a word starts, and the action that it names
 pub record Word : Type 0 where
   pub at : ℕ
-  pub found : Found
+  pub found : Option ℕ
 
 -- a word that has ended, where it has a byte
 abbrev pub word_ended : ℕ → List ℕ → List Word → List Word
@@ -30,9 +28,9 @@ words_of text = words_from 0 [] text
 
 -- ---- the actions that they name
 
-abbrev pub found_then : Found → List ℕ → List ℕ
-found_then (Action n) rest = n ∷ rest
-found_then Nothing rest = rest
+abbrev pub found_then : Option ℕ → List ℕ → List ℕ
+found_then (Some n) rest = n ∷ rest
+found_then None rest = rest
 
 abbrev pub numbers : List Word → List ℕ
 numbers [] = []

@@ -1,6 +1,5 @@
 pub mod Words
-pub mod Next
-pub mod Walk
+pub mod Told
 pub mod First
 pub mod Count
 pub mod Lines

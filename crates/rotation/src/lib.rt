@@ -4,9 +4,10 @@
 
 mod gaps;
 mod lines;
+mod reading;
 mod timing;
 mod words;
 
 pub use lines::{measure, put_list};
+pub use reading::{count, put_words, read_words};
 pub use timing::seconds;
-pub use words::{Counted, count, put_words, read_words};

@@ -9,6 +9,7 @@ ghost use Rattle.rotation.specs.inner.Lines.{name_line_most};
 use super::gaps::NEWLINE;
 use action::Text;
 
+#[tactic(auto, using(crate::proofs::Rules::writing))]
 fn put_line(n: u8, out: &mut [u8], at: usize) -> usize
     requires { (n < actions) × (at + length (line_of n) ≤ length out.old) }
     ensures { Put out.old at (line_of n) result out.new }
@@ -20,6 +21,7 @@ fn put_line(n: u8, out: &mut [u8], at: usize) -> usize
 const LINE_MOST: usize = 25;
 
 // The length of a name's line, which is put into a room of its own: none is longer.
+#[tactic(auto, using(crate::proofs::Rules::writing))]
 fn line_len(n: u8) -> usize
     requires { n < actions }
     ensures { (result ≡ length (line_of n)) × (result ≤ name_line_most) }
@@ -29,15 +31,14 @@ fn line_len(n: u8) -> usize
 }
 
 // The length of a list's text.
+#[tactic(auto, using(crate::proofs::Rules::writing))]
 pub fn measure(list: &[u8]) -> usize
     requires { (length list.now ≤ known_front list.now) × (length list.now ≤ size_most) }
     ensures { result ≡ length (list_text_of list.now) }
 {
-    let mut i = 0;
     let mut need: usize = 0;
-    while i < list.len() {
-        need += line_len(list[i]);
-        i += 1;
+    for n in list {
+        need += line_len(*n);
     }
     need
 }
@@ -46,11 +47,9 @@ pub fn put_list(list: &[u8], out: &mut [u8]) -> usize
     requires { (length list.now ≤ known_front list.now) × (length (list_text_of list.now) ≤ length out.old) }
     ensures { Put out.old 0 (list_text_of list.now) result out.new }
 {
-    let mut i = 0;
     let mut at = 0;
-    while i < list.len() {
-        at = put_line(list[i], out, at);
-        i += 1;
+    for n in list {
+        at = put_line(*n, out, at);
     }
     at
 }

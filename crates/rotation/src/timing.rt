@@ -1,18 +1,27 @@
 // A list's macro time.
 ghost use Rattle.std.specs.Prelude.{◌≡◌, ◌≤◌, length};
 ghost use Rattle.refusal.specs.Judge.{size_most};
-ghost use Rattle.rotation.specs.Seconds.{seconds_of};
+ghost use Rattle.rotation.specs.Seconds.{waits_of, seconds_of};
 
-// The waits of its actions in seconds, without the last: the craft is over when that is used.
+// The waits of some actions in seconds.
+fn waits(actions: &[u8]) -> u32
+    requires { length actions.now ≤ size_most }
+    ensures { result ≡ waits_of actions.now }
+{
+    actions
+        .iter()
+        .map(|n| u32::from(action::wait(action::attributes_of(*n))))
+        .sum()
+}
+
+// Those of a list without the last: the craft is over when that is used.
+#[tactic(auto, using(crate::specs::laws::Seconds::seconds_front, crate::specs::laws::Seconds::seconds_most))]
 pub fn seconds(list: &[u8]) -> u32
     requires { length list.now ≤ size_most }
     ensures { result ≡ seconds_of list.now }
 {
-    let mut i = 0;
-    let mut sum: u32 = 0;
-    while i + 1 < list.len() {
-        sum += action::wait(action::attributes_of(list[i])) as u32;
-        i += 1;
+    match list.split_last() {
+        Some((_, front)) => waits(front),
+        None => 0,
     }
-    sum
 }

@@ -1,100 +1,42 @@
-// A list of actions read from text: words parted by gaps, each exactly a name.
-ghost use Rattle.std.specs.Prelude.{◌≡◌, true, ◌≤◌, length};
-ghost use Rattle.text.specs.Over.{over, Put};
-ghost use Rattle.rotation.specs.Words.{words_known, actions_in};
-ghost use Rattle.rotation.specs.inner.Counted.{counted_of, leading_in};
-ghost use Rattle.rotation.specs.inner.Next.{next_of};
+// The words of a text, parted by gaps, one after another: each is exactly an action's name, or unknown.
+ghost use Rattle.std.specs.Prelude.{◌≤◌, length};
 
-use super::gaps::{skip_gaps, skip_letters};
-use action::Found;
+use super::gaps::{first_gap, first_letter};
 
-// What follows a place of a text: no word, an unknown one at its start, or an action and the place after its name.
-#[derive(Clone, Copy)]
-enum Next {
-    End,
-    Unknown(usize),
-    Action(u8, usize),
+// A place of a text, from which its words are told: each the action that it names, or where it starts if it names none.
+#[derive(Drop)]
+pub struct Words<'a> {
+    text: &'a [u8],
+    at: usize,
+    ghost within: { at ≤ length text.now },
 }
 
-fn next_word(text: &[u8], at: usize) -> Next
-    requires { at ≤ length text.now }
-    ensures { result ≡ next_of text.now at }
-{
-    let start = skip_gaps(text, at);
-    if start >= text.len() {
-        return Next::End;
-    }
-    let end = skip_letters(text, start);
-    let found = action::from_name(&text[start..end]);
-    let Found::Action(n) = found else {
-        return Next::Unknown(start);
-    };
-    Next::Action(n, end)
-}
+impl<'a> Words<'a> {
+    ghost use Rattle.std.specs.Prelude.{◌≡◌};
+    ghost use Rattle.rotation.specs.inner.Told.{told_from, told_of};
 
-// How many words a text has, or where its first unknown word starts.
-#[derive(Clone, Copy)]
-pub enum Counted {
-    Words(usize),
-    Unknown(usize),
-}
-
-pub fn count(text: &[u8]) -> Counted
-    ensures { (result ≡ counted_of text.now) × (length (actions_in text.now) ≤ length text.now) }
-{
-    let mut k: usize = 0;
-    let mut at: usize = 0;
-    loop {
-        let next = next_word(text, at);
-        match next {
-            Next::End => return Counted::Words(k),
-            Next::Unknown(start) => return Counted::Unknown(start),
-            Next::Action(_, end) => {
-                k += 1;
-                at = end;
-            }
-        }
+    pub fn new(text: &'a [u8]) -> Words<'a>
+        ensures { told_from result ≡ told_of text.now }
+    {
+        Words { text, at: 0 }
     }
 }
 
-// Both at once, where there is a place for each byte of the text: its actions are stored up to the first unknown word.
-pub fn read_words(text: &[u8], out: &mut [u8]) -> Counted
-    requires { length text.now ≤ length out.old }
-    ensures { (result ≡ counted_of text.now) × (out.new ≡ over out.old 0 (leading_in text.now)) }
-{
-    let mut k: usize = 0;
-    let mut at: usize = 0;
-    loop {
-        let next = next_word(text, at);
-        match next {
-            Next::End => return Counted::Words(k),
-            Next::Unknown(start) => return Counted::Unknown(start),
-            Next::Action(n, end) => {
-                out[k] = n;
-                k += 1;
-                at = end;
-            }
-        }
-    }
-}
+impl<'a> Iterator for Words<'a> {
+    ghost use Rattle.std.specs.Iterator.{YieldsFirst, item_count};
+    ghost use Rattle.rotation.specs.inner.Told.{told_from};
 
-// Stores the actions of a text whose words are all known.
-pub fn put_words(text: &[u8], out: &mut [u8]) -> usize
-    requires { (words_known text.now ≡ true) × (length (actions_in text.now) ≤ length out.old) }
-    ensures { Put out.old 0 (actions_in text.now) result out.new }
-{
-    let mut k: usize = 0;
-    let mut at: usize = 0;
-    loop {
-        let next = next_word(text, at);
-        match next {
-            Next::End => return k,
-            Next::Unknown(_) => return k,
-            Next::Action(n, end) => {
-                out[k] = n;
-                k += 1;
-                at = end;
-            }
-        }
+    type Item = Result<u8, usize>;
+
+    ghost next_gives = { YieldsFirst told_from };
+
+    ghost remaining = { item_count told_from };
+
+    fn next(&mut self) -> Option<Result<u8, usize>> {
+        let start = self.at + first_letter(&self.text[self.at..])?;
+        let rest = &self.text[start..];
+        let end = start + first_gap(rest).unwrap_or(rest.len());
+        self.at = end;
+        Some(action::from_name(&self.text[start..end]).ok_or(start))
     }
 }

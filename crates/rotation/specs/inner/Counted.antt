@@ -1,20 +1,16 @@
 -- For the contracts of the inner functions `count` and `read_words`: how many words a text has, or where its first unknown word starts, and the
 -- actions before that one.
 -- Assumes nothing.
-use Rattle.std.specs.Prelude.{cond, List, [], ◌∷◌, ℕ, length}
-use Rattle.action.specs.declared.names.Found.{Found}
-use Rattle.action.specs.declared.names.Found.TheVariants.{Action, Nothing}
+use Rattle.std.specs.Prelude.{Option, Some, None, Result, Ok, Err, cond, List, [], ◌∷◌, ℕ, length}
 use Rattle.rotation.specs.Words.{Word, words_of, actions_in, words_known, unknown_at}
-use Rattle.rotation.specs.declared.words.Counted.{Counted}
-use Rattle.rotation.specs.declared.words.Counted.TheVariants as C
 
-abbrev pub counted_of : List ℕ → Counted
-counted_of text = cond (words_known text) (C.Words (length (actions_in text))) (C.Unknown (unknown_at text))
+abbrev pub counted_of : List ℕ → Result ℕ ℕ
+counted_of text = cond (words_known text) (Ok (length (actions_in text))) (Err (unknown_at text))
 
 -- an unknown word ends them
-abbrev pub known_then : Found → List ℕ → List ℕ
-known_then (Action n) rest = n ∷ rest
-known_then Nothing rest = []
+abbrev pub known_then : Option ℕ → List ℕ → List ℕ
+known_then (Some n) rest = n ∷ rest
+known_then None rest = []
 
 abbrev pub leading : List Word → List ℕ
 leading [] = []

@@ -1,13 +1,11 @@
 -- Theorem: the offset of refusal 5 is the start of the first word that is no name, and no other place is.
 -- Assumes nothing.
-use Rattle.std.specs.Prelude.{◌≡◌, refl, Bool, true, false, cond, not, ◌&&◌, ◌⊎◌, List, [], ◌∷◌, ◌++◌, ℕ, zero, suc, ◌+◌, ◌<◌, length, take, drop, get_or}
+use Rattle.std.specs.Prelude.{Option, Some, None, ◌≡◌, refl, Bool, true, false, cond, not, ◌&&◌, ◌⊎◌, List, [], ◌∷◌, ◌++◌, ℕ, zero, suc, ◌+◌, ◌<◌, length, take, drop, get_or}
 use Rattle.std.proofs.Common.{sym, ap, subst, ◌∙◌, inl, inr, ⊎_elim, append-nil, append_assoc, zero-add, not-suc-le-zero, arith, length-append, length-take, length-drop, take-suc}
 use Rattle.std.proofs.Math.Seq.{split_at}
 use Rattle.laws.specs.laws.Tests.{true_false, either, both}
 use Rattle.laws.specs.Lists.{front}
 use Rattle.action.specs.Names.{found_of, is_found}
-use Rattle.action.specs.declared.names.Found.{Found}
-use Rattle.action.specs.declared.names.Found.TheVariants.{Action, Nothing}
 use Rattle.rotation.specs.Gaps.{gap, letter}
 use Rattle.rotation.specs.Words.{Word, word_ended, words_from, words_of, all_found, first_unknown, words_known, unknown_at}
 use Rattle.rotation.specs.laws.Words.{words_cases, words_gap, words_letter, words_end, one_word, words_seam}
@@ -20,24 +18,24 @@ module _ (at : ℕ) (word : List ℕ) (more : List Word) where
       → (all_found (word_ended at word more) ≡ all_found more) × (first_unknown (word_ended at word more) ≡ first_unknown more)
   ended_known = by word
     where
-      on : (f : Found) → is_found f && true ≡ true
+      on : (f : Option ℕ) → is_found f && true ≡ true
           → (is_found f && all_found more ≡ all_found more) × (cond (is_found f) (first_unknown more) at ≡ first_unknown more)
-      on (Action n) t = (refl, refl)
-      on Nothing t = absurd (true_false (sym t))
+      on (Some n) t = (refl, refl)
+      on None t = absurd (true_false (sym t))
 
       by : (w : List ℕ) → all_found (word_ended at w []) ≡ true
           → (all_found (word_ended at w more) ≡ all_found more) × (first_unknown (word_ended at w more) ≡ first_unknown more)
       by [] t = (refl, refl)
       by (b ∷ w) t = on (found_of (b ∷ w)) t
 
-  ended_unknown : all_found (word_ended at word []) ≡ false → (0 < length word) × (found_of word ≡ Nothing) × (first_unknown (word_ended at word more) ≡ at)
+  ended_unknown : all_found (word_ended at word []) ≡ false → (0 < length word) × (found_of word ≡ None) × (first_unknown (word_ended at word more) ≡ at)
   ended_unknown = by word
     where
-      on : (f : Found) → is_found f && true ≡ false → (f ≡ Nothing) × (cond (is_found f) (first_unknown more) at ≡ at)
-      on (Action n) t = absurd (true_false t)
-      on Nothing t = (refl, refl)
+      on : (f : Option ℕ) → is_found f && true ≡ false → (f ≡ None) × (cond (is_found f) (first_unknown more) at ≡ at)
+      on (Some n) t = absurd (true_false t)
+      on None t = (refl, refl)
 
-      by : (w : List ℕ) → all_found (word_ended at w []) ≡ false → (0 < length w) × (found_of w ≡ Nothing) × (first_unknown (word_ended at w more) ≡ at)
+      by : (w : List ℕ) → all_found (word_ended at w []) ≡ false → (0 < length w) × (found_of w ≡ None) × (first_unknown (word_ended at w more) ≡ at)
       by [] t = absurd (true_false t)
       by (b ∷ w) t = let o = on (found_of (b ∷ w)) t in (omega arith, o.0, o.1)
 
@@ -47,7 +45,7 @@ module _ (at : ℕ) (word : List ℕ) (more : List Word) where
 record Here (at : ℕ) (word text : List ℕ) (k : ℕ) : Type 0 where
   place : k ≡ at
   some : 0 < length (word ++ word_at text 0)
-  unknown : found_of (word ++ word_at text 0) ≡ Nothing
+  unknown : found_of (word ++ word_at text 0) ≡ None
 
 -- or it stands after a gap
 record Later (at : ℕ) (word text : List ℕ) (k : ℕ) : Type 0 where
@@ -55,7 +53,7 @@ record Later (at : ℕ) (word text : List ℕ) (k : ℕ) : Type 0 where
   place : k ≡ at + length word + suc j
   parted : gap (get_or text j 0) ≡ true
   some : 0 < length (word_at text (suc j))
-  unknown : found_of (word_at text (suc j)) ≡ Nothing
+  unknown : found_of (word_at text (suc j)) ≡ None
   before : all_found (words_from at word (take (suc j) text)) ≡ true
 
 abbrev Located : ℕ → List ℕ → List ℕ → List Word → Type 0
@@ -143,7 +141,7 @@ some_letter (b ∷ text) h = (omega arith, by (gap b) refl h)
     by false e h = refl
 
 -- an unknown word that a text starts with
-starts_unknown : (text : List ℕ) (at : ℕ) → 0 < length (word_at text 0) → found_of (word_at text 0) ≡ Nothing
+starts_unknown : (text : List ℕ) (at : ℕ) → 0 < length (word_at text 0) → found_of (word_at text 0) ≡ None
     → (all_found (words_from at [] text) ≡ false) × (first_unknown (words_from at [] text) ≡ at)
 starts_unknown text at h u =
     let s = some_letter text h in

@@ -1,6 +1,6 @@
 -- Theorems: what is written of a list is read back as the list.
 -- Assumes nothing.
-use Rattle.std.specs.Prelude.{◌≡◌, refl, Bool, true, false, not, ◌&&◌, List, [], ◌∷◌, ◌++◌, ℕ, suc, ◌+◌, ◌≤◌, ◌<◌, T, length, get_or}
+use Rattle.std.specs.Prelude.{Some, ◌≡◌, refl, Bool, true, false, not, ◌&&◌, List, [], ◌∷◌, ◌++◌, ℕ, suc, ◌+◌, ◌≤◌, ◌<◌, T, length, get_or}
 use Rattle.std.proofs.Common.{sym, ap, subst, ◌∙◌, ⊎_elim, append-nil, append_assoc, arith}
 use Rattle.laws.specs.laws.Tests.{either, and_left, and_right}
 use Rattle.laws.specs.laws.Same.{below_at}
@@ -9,7 +9,6 @@ use Rattle.action.specs.Known.{actions, known_front}
 use Rattle.action.specs.laws.Known.{known_each}
 use Rattle.action.specs.Names.{name_of, found_of}
 use Rattle.action.specs.laws.Names.{name_long, own_name}
-use Rattle.action.specs.declared.names.Found.TheVariants.{Action}
 use Rattle.rotation.specs.Gaps.{newline, gap, letter}
 use Rattle.rotation.specs.Words.{Word, word_ended, words_from, words_of, numbers, all_found, actions_in, words_known}
 use Rattle.rotation.specs.laws.Words.{words_gap, words_letter, words_end}
@@ -42,7 +41,7 @@ ended_some at (b ∷ word) more h = refl
 
 -- the first word of a list's text is its first action
 line_word : (n : ℕ) (text : List ℕ) (at : ℕ) → n < actions
-    → words_from at [] (line_of n ++ text) ≡ record { at = at; found = Action n } ∷ words_from (at + length (name_of n) + 1) [] text
+    → words_from at [] (line_of n ++ text) ≡ record { at = at; found = Some n } ∷ words_from (at + length (name_of n) + 1) [] text
 unfolding line_of gap
 line_word n text at h =
     ap (words_from at []) (append_assoc (name_of n) (newline ∷ []) text)

@@ -1,8 +1,9 @@
 -- Laws of a list's macro time: on a walk over the list, with an action more, and how long it is at most.
 -- Assumes nothing.
-use Rattle.std.specs.Prelude.{◌≡◌, refl, List, [], ◌∷◌, ◌++◌, ℕ, zero, suc, ◌+◌, ◌*◌, ◌-◌, ◌≤◌, ◌<◌, length, get_or, take}
+use Rattle.std.specs.Prelude.{◌≡◌, refl, List, [], ◌∷◌, ◌++◌, ℕ, zero, suc, ◌+◌, ◌*◌, ◌-◌, ◌≤◌, ◌<◌, length, get_or, take, map, sum}
 use Rattle.std.proofs.Common.{ap, ◌∙◌, append-nil, arith, add-one, length-append, take-suc}
 use Rattle.std.proofs.Math.Seq.{take-length, take-append-add}
+use Rattle.std.proofs.lemmas.List.Sums.{sum_by-cons}
 use Rattle.action.specs.Table.{attributes_of}
 use Rattle.action.specs.Wait.{wait_of}
 use Rattle.action.specs.laws.Bounds.{wait_most}
@@ -12,6 +13,12 @@ waits_append : (list more : List ℕ) → waits_of (list ++ more) ≡ waits_of l
 unfolding waits_of
 waits_append [] more = omega arith
 waits_append (n ∷ rest) more = omega (arith, waits_append rest more)
+
+pub waits_sum : (list : List ℕ) → sum (map (λ n. wait_of (attributes_of n)) list) ≡ waits_of list
+unfolding waits_of
+waits_sum [] = refl
+waits_sum (n ∷ rest) =
+    sum_by-cons (λ x. x) (wait_of (attributes_of n)) (map (λ n. wait_of (attributes_of n)) rest) ∙ ap (λ (k : ℕ). wait_of (attributes_of n) + k) (waits_sum rest)
 
 -- on a walk over the list: of none, of one more than i, and of all but the last
 pub waits_none : waits_of [] ≡ 0
@@ -34,6 +41,10 @@ seconds_apart front n rest =
     let back : List ℕ = n ∷ rest in
     let counted : length (front ++ back) - 1 ≡ length front + (length back - 1) = omega (arith, length-append front back) in
     ap (λ (k : ℕ). waits_of (take k (front ++ back))) counted ∙ ap waits_of (take-append-add front back (length back - 1)) ∙ waits_append front (take (length back - 1) back)
+
+pub seconds_front : (front : List ℕ) (n : ℕ) → seconds_of (front ++ (n ∷ [])) ≡ waits_of front
+unfolding waits_of seconds_of
+seconds_front front n = omega (arith, seconds_apart front n [])
 
 -- every wait counts but that of the last action
 waits_last : (list : List ℕ) → waits_of list ≡ seconds_of list + last_wait list

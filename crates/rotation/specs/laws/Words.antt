@@ -1,14 +1,12 @@
 -- Laws of a text's words: how they go on past gaps and letters, and that a text has no more of them than bytes.
 -- Assumes nothing.
-use Rattle.std.specs.Prelude.{◌≡◌, refl, Bool, true, false, List, [], ◌∷◌, ◌++◌, ℕ, suc, ◌+◌, ◌≤◌, ◌<◌, length, take, drop, get_or}
+use Rattle.std.specs.Prelude.{Option, Some, None, ◌≡◌, refl, Bool, true, false, List, [], ◌∷◌, ◌++◌, ℕ, suc, ◌+◌, ◌≤◌, ◌<◌, length, take, drop, get_or}
 use Rattle.std.proofs.Common.{sym, ap, ◌∙◌, ⊎_elim, append-nil, append_assoc, add-zero, not-suc-le-zero, arith, lt-ltb, length-append, length-take-le}
 use Rattle.laws.specs.laws.Tests.{either}
 use Rattle.laws.specs.laws.Front.{front_le}
 use Rattle.action.specs.Known.{actions, known_front}
 use Rattle.action.specs.Names.{found_of}
 use Rattle.action.specs.laws.Names.{found_known}
-use Rattle.action.specs.declared.names.Found.{Found}
-use Rattle.action.specs.declared.names.Found.TheVariants.{Action, Nothing}
 use Rattle.rotation.specs.Gaps.{gap, letter}
 use Rattle.rotation.specs.Words.{Word, word_ended, words_from, words_of, found_then, numbers, actions_in}
 use Rattle.laws.specs.Lists.{front}
@@ -110,9 +108,9 @@ words_seam (x ∷ before) at word b text e =
 
 -- ---- how many there are
 
-listed_most : (found : Found) (rest : List ℕ) → length (found_then found rest) ≤ suc (length rest)
-listed_most (Action n) rest = omega arith
-listed_most Nothing rest = omega arith
+listed_most : (found : Option ℕ) (rest : List ℕ) → length (found_then found rest) ≤ suc (length rest)
+listed_most (Some n) rest = omega arith
+listed_most None rest = omega arith
 
 ended_most : (at : ℕ) (word : List ℕ) (more : List Word) → length (numbers (word_ended at word more)) ≤ length word + length (numbers more)
 ended_most at [] more = omega arith
@@ -139,9 +137,9 @@ unfolding known_front
 ended_known at [] more h = h
 ended_known at (b ∷ word) more h = by (found_of (b ∷ word)) refl
   where
-    by : (f : Found) → found_of (b ∷ word) ≡ f → length (found_then f (numbers more)) ≤ known_front (found_then f (numbers more))
-    by (Action n) e = simp (lt-ltb n actions (found_known (b ∷ word) e)) (omega arith)
-    by Nothing e = h
+    by : (f : Option ℕ) → found_of (b ∷ word) ≡ f → length (found_then f (numbers more)) ≤ known_front (found_then f (numbers more))
+    by (Some n) e = simp (lt-ltb n actions (found_known (b ∷ word) e)) (omega arith)
+    by None e = h
 
 from_known : (at : ℕ) (word text : List ℕ) → Known (words_from at word text)
 unfolding words_from known_front

@@ -1,8 +1,7 @@
 -- Examples of document 01, and of document 02's E5, worked out from the definitions.
 -- Assumes nothing.
-use Rattle.std.specs.Prelude.{◌≡◌, refl, [], ◌∷◌, ◌++◌, ℕ}
+use Rattle.std.specs.Prelude.{◌≡◌, refl, Err, [], ◌∷◌, ◌++◌, ℕ}
 use Rattle.refusal.specs.Judge.{checked_of}
-use Rattle.refusal.specs.declared.Checked.TheVariants.{Refused}
 use Rattle.refusal.specs.declared.Refusal.TheVariants.{UnknownWord}
 use Rattle.text.specs.Bytes.{bytes}
 use Rattle.action.specs.Actions as A
@@ -14,7 +13,7 @@ use Rattle.rotation.specs.Lines.{line_of, list_text_of}
 use Rattle.rotation.specs.Seconds.{waits_of, seconds_of}
 
 -- `BasicTouch`, byte 10, `Nope`: refusal 5 at 11
-nope : checked_of (words_test 0 (bytes "BasicTouch" ++ (10 ∷ bytes "Nope"))) ≡ Refused (UnknownWord 11)
+nope : checked_of (words_test 0 (bytes "BasicTouch" ++ (10 ∷ bytes "Nope"))) ≡ Err (UnknownWord 11)
 unfolding action_of name_of found_from found_of gap words_from words_of words_known unknown_at
 nope = refl
 
