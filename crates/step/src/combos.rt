@@ -5,47 +5,50 @@ ghost use Rattle.step.specs.Step.{paid_of, combined_of};
 ghost use Rattle.step.specs.inner.Asked.{Payable};
 
 use super::quality::on_basic_touch;
-use action::{Amount, Combo};
+use action::Combo;
 use craft_state::{CraftState, renewed};
 
-pub fn paid(state: CraftState, n: u8, attribute: Amount) -> CraftState
+#[inline(always)]
+#[tactic(auto, unfolding(crate::specs::Step::paid_of))]
+pub fn paid(state: CraftState, n: u8, attribute: Option<u32>) -> CraftState
     requires { Payable state.cp state.previous_combo_action n attribute }
     ensures { result ≡ paid_of state n attribute }
 {
-    let Amount::Of(cost) = attribute else {
+    let Some(cost) = attribute else {
         return state;
     };
-    let combo = state.previous_combo_action;
-    let price = action::calc_cp_cost(n, combo, cost);
-    let mut next = state;
-    next.cp = state.cp - price;
-    next
+    let price = action::calc_cp_cost(n, state.previous_combo_action, cost);
+    CraftState {
+        cp: state.cp - price,
+        ..state
+    }
 }
 
-fn next_combo(combo: Combo, n: u8) -> Combo
+#[inline(always)]
+fn next_combo(combo: Option<Combo>, n: u8) -> Option<Combo>
     ensures { result ≡ combo_after combo n }
 {
     if n == action::BASIC_TOUCH {
-        return Combo::BasicTouch;
+        return Some(Combo::BasicTouch);
     }
     if n == action::OBSERVE {
-        return Combo::Observe;
+        return Some(Combo::Observe);
     }
     let continued = on_basic_touch(combo);
     if (n == action::STANDARD_TOUCH) & continued {
-        return Combo::StandardTouch;
+        return Some(Combo::StandardTouch);
     }
     if (n == action::REFINED_TOUCH) & continued {
-        return Combo::RefinedTouch;
+        return Some(Combo::RefinedTouch);
     }
-    Combo::Nothing
+    None
 }
 
+#[inline(always)]
+#[tactic(auto, unfolding(crate::specs::Step::combined_of, craft_state::specs::Start::renewed_of))]
 pub fn combined(state: CraftState, n: u8) -> CraftState
     ensures { result ≡ combined_of state n }
 {
-    let combo = state.previous_combo_action;
-    let perfection = state.trained_perfection_active;
-    let last = state.action;
-    renewed(state, next_combo(combo, n), perfection, last)
+    let combo = next_combo(state.previous_combo_action, n);
+    renewed(state, combo, state.trained_perfection_active, state.action)
 }

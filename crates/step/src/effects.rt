@@ -1,7 +1,7 @@
 // Parts 8 and 9: the timers fall, and the action's effects, which come last.
-ghost use Rattle.std.specs.Prelude.{◌≡◌, ◌-◌};
+ghost use Rattle.std.specs.Prelude.{◌≡◌};
 ghost use Rattle.craft_state.specs.Inside.{DurabilityIn};
-ghost use Rattle.step.specs.Parts.{mend_after, perfected_by};
+ghost use Rattle.step.specs.Parts.{ticked_of, mend_after, perfected_by};
 ghost use Rattle.step.specs.Step.{timed_of, buffed_of, affected_of};
 
 use super::durability::mend;
@@ -10,41 +10,42 @@ use craft_state::{Buffs, CraftState, Perfection, renewed};
 
 const MASTERS_MENDS: u32 = 30;
 
-fn less(timer: u8) -> u8
-    ensures { result ≡ timer - 1 }
+// Inner quiet is no timer.
+#[inline(always)]
+#[tactic(auto, unfolding(crate::specs::Parts::ticked_of))]
+fn ticked(buffs: Buffs) -> Buffs
+    ensures { result ≡ ticked_of buffs }
 {
-    if timer > 0 {
-        return timer - 1;
+    Buffs {
+        waste_not: buffs.waste_not.saturating_sub(1),
+        waste_not_ii: buffs.waste_not_ii.saturating_sub(1),
+        manipulation: buffs.manipulation.saturating_sub(1),
+        great_strides: buffs.great_strides.saturating_sub(1),
+        innovation: buffs.innovation.saturating_sub(1),
+        veneration: buffs.veneration.saturating_sub(1),
+        muscle_memory: buffs.muscle_memory.saturating_sub(1),
+        ..buffs
     }
-    0
 }
 
-// QuickInnovation takes no step, and inner quiet is no timer.
+// QuickInnovation takes no step.
+#[inline(always)]
+#[tactic(auto, unfolding(crate::specs::Step::timed_of))]
 pub fn timed(state: CraftState, n: u8) -> CraftState
     ensures { result ≡ timed_of state n }
 {
     if n == action::QUICK_INNOVATION {
         return state;
     }
-    let waste_not = less(state.buffs.waste_not);
-    let waste_not_ii = less(state.buffs.waste_not_ii);
-    let manipulation = less(state.buffs.manipulation);
-    let great_strides = less(state.buffs.great_strides);
-    let innovation = less(state.buffs.innovation);
-    let veneration = less(state.buffs.veneration);
-    let muscle_memory = less(state.buffs.muscle_memory);
-    let mut next = state;
-    next.buffs.waste_not = waste_not;
-    next.buffs.waste_not_ii = waste_not_ii;
-    next.buffs.manipulation = manipulation;
-    next.buffs.great_strides = great_strides;
-    next.buffs.innovation = innovation;
-    next.buffs.veneration = veneration;
-    next.buffs.muscle_memory = muscle_memory;
-    next
+    CraftState {
+        buffs: ticked(state.buffs),
+        ..state
+    }
 }
 
 // What the action sets among the buffs.
+#[inline(always)]
+#[tactic(auto, unfolding(crate::specs::Parts::effect_of))]
 fn buffed(state: CraftState, n: u8) -> CraftState
     ensures { result ≡ buffed_of state n }
 {
@@ -69,19 +70,19 @@ fn buffed(state: CraftState, n: u8) -> CraftState
     next
 }
 
+#[inline(always)]
 fn mended(n: u8, durability: i8, most: i8) -> i8
     requires { DurabilityIn durability most }
     ensures { result ≡ mend_after n durability most }
 {
-    if n == action::MASTERS_MEND {
-        return mend(durability, MASTERS_MENDS, most);
+    match n {
+        action::MASTERS_MEND => mend(durability, MASTERS_MENDS, most),
+        action::IMMACULATE_MEND => most,
+        _ => durability,
     }
-    if n == action::IMMACULATE_MEND {
-        return most;
-    }
-    durability
 }
 
+#[inline(always)]
 fn perfected(n: u8, perfection: Perfection) -> Perfection
     ensures { result ≡ perfected_by n perfection }
 {
@@ -91,17 +92,17 @@ fn perfected(n: u8, perfection: Perfection) -> Perfection
     perfection
 }
 
+#[inline(always)]
+#[tactic(auto, unfolding(crate::specs::Step::affected_of, craft_state::specs::Start::renewed_of))]
 pub fn affected(context: CraftContext, state: CraftState, n: u8) -> CraftState
     requires { DurabilityIn state.durability context.durability_max }
     ensures { result ≡ affected_of context state n }
 {
     let combo = state.previous_combo_action;
-    let perfection = state.trained_perfection_active;
-    let last = state.action;
-    let quick = state.quick_innovation_available;
-    let buffed = buffed(state, n);
-    let mut next = renewed(buffed, combo, perfected(n, perfection), last);
+    let perfection = perfected(n, state.trained_perfection_active);
+    let mut next = renewed(buffed(state, n), combo, perfection, state.action);
     next.durability = mended(n, state.durability, context.durability_max);
-    next.quick_innovation_available = quick & (n != action::QUICK_INNOVATION);
+    next.quick_innovation_available = state.quick_innovation_available
+        & (n != action::QUICK_INNOVATION);
     next
 }

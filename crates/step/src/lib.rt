@@ -11,4 +11,4 @@ mod whole;
 
 pub use durability::wears;
 pub use quality::on_basic_touch;
-pub use whole::{execute, execute_single};
+pub use whole::execute;

@@ -1,13 +1,11 @@
 -- For the contracts of inner functions: what those of one action ask, a context and a state inside the limits, and what makes the action legal there.
 -- Assumes nothing.
-use Rattle.std.specs.Prelude.{◌≡◌, false, ℕ, ◌≤◌, ◌<◌, pos}
+use Rattle.std.specs.Prelude.{◌≡◌, false, ℕ, ◌≤◌, ◌<◌, pos, Option, Some, None}
 use Rattle.std.specs.Int.Signed.{le_z}
 use Rattle.action.specs.Known.{actions}
 use Rattle.action.specs.Limits.{amount_most, factor_most, target_most, progress_most, quiet_most}
 use Rattle.action.specs.Amount.{AtMost}
 use Rattle.action.specs.Price.{charge_of}
-use Rattle.action.specs.declared.table.Amount.{Amount}
-use Rattle.action.specs.declared.table.Amount.TheVariants.{Of, Nothing}
 use Rattle.action.specs.declared.table.Attributes.{Attributes}
 use Rattle.action.specs.declared.price.Combo.{Combo}
 use Rattle.craft_context.specs.declared.context.CraftContext.{CraftContext}
@@ -15,12 +13,12 @@ use Rattle.craft_state.specs.declared.state.CraftState.{CraftState}
 use Rattle.craft_state.specs.Inside.{CraftIn}
 
 -- said of an attribute where there is one
-abbrev pub Where : Amount → Type 0 → Type 0
-Where (Of amount) holds = holds
-Where Nothing holds = Unit {0}
+abbrev pub Where : Option ℕ → Type 0 → Type 0
+Where (Some amount) holds = holds
+Where None holds = Unit {0}
 
 -- the price charged is at most the points
-abbrev pub Payable : ℕ → Combo → ℕ → Amount → Type 0
+abbrev pub Payable : ℕ → Option Combo → ℕ → Option ℕ → Type 0
 Payable cp combo n cost = charge_of n combo cost ≤ cp
 
 -- what a legal action rests on, by its row
@@ -35,7 +33,7 @@ pub record Playable (c : CraftContext) (s : CraftState) (n : ℕ) (row : Attribu
 
 -- ---- what its parts ask
 
-pub record Progressing (c : CraftContext) (s : CraftState) (efficiency : Amount) : Type 0 where
+pub record Progressing (c : CraftContext) (s : CraftState) (efficiency : Option ℕ) : Type 0 where
   pub row : AtMost progress_most efficiency
   pub factor : c.base_progress_factor ≤ factor_most
   pub progress : s.progress ≤ amount_most

@@ -1,6 +1,6 @@
 -- Bounds of what one action does to each field, by any row in the bounds.
 -- Assumes nothing.
-use Rattle.std.specs.Prelude.{◌≡◌, refl, Bool, true, false, cond, ◌&&◌, ◌||◌, ℕ, ◌+◌, ◌-◌, ◌/◌, ◌≤◌, ◌<◌, eqb, ltb, ℤ, pos}
+use Rattle.std.specs.Prelude.{◌≡◌, refl, Bool, true, false, cond, ◌&&◌, ◌||◌, ℕ, ◌+◌, ◌-◌, ◌/◌, ◌≤◌, ◌<◌, eqb, ltb, ℤ, pos, Option, Some, None}
 use Rattle.std.proofs.Common.{le_refl, le_trans, sub-le, sub-add_cancel, arith}
 use Rattle.std.specs.Int.Signed.{le_z}
 use Rattle.laws.specs.laws.Tests.{both, cond_le}
@@ -11,14 +11,11 @@ use Rattle.action.specs.Gain.{Touchable}
 use Rattle.action.specs.laws.Gain.{progress_gain_at_most, quality_gain_at_most}
 use Rattle.action.specs.Price.{charge_of}
 use Rattle.action.specs.Wear.{wear_of}
-use Rattle.action.specs.declared.table.Amount.{Amount}
-use Rattle.action.specs.declared.table.Amount.TheVariants.{Of, Nothing}
 use Rattle.action.specs.declared.price.Combo.{Combo}
 use Rattle.action.specs.declared.price.Combo.TheVariants as C
 use Rattle.craft_context.specs.declared.context.CraftContext.{CraftContext}
 use Rattle.craft_state.specs.declared.buffs.Buffs.{Buffs}
 use Rattle.craft_state.specs.declared.state.CraftState.{CraftState}
-use Rattle.craft_state.specs.declared.state.Last.TheVariants as L
 use Rattle.craft_state.specs.Limits.{combo_agrees}
 use Rattle.craft_state.specs.Inside.{DurabilityIn, BuffsIn}
 use Rattle.craft_state.specs.laws.Inside.{full_in}
@@ -30,40 +27,40 @@ use Rattle.step.specs.inner.Asked.{Where, Payable, Progressing, Touching}
 
 -- ---- progress and quality
 
-pub progress_at_most : (c : CraftContext) (s : CraftState) (e : Amount)
+pub progress_at_most : (c : CraftContext) (s : CraftState) (e : Option ℕ)
     → Progressing c s e → s.progress ≤ target_most → progress_after c s e ≤ amount_most
-progress_at_most c s (Of efficiency) p h =
+progress_at_most c s (Some efficiency) p h =
     omega (arith, progress_gain_at_most s.buffs.veneration s.buffs.muscle_memory p.factor p.row)
-progress_at_most c s Nothing p h = p.progress
+progress_at_most c s None p h = p.progress
 
-pub progress_rises : (c : CraftContext) (s : CraftState) (e : Amount) → s.progress ≤ progress_after c s e
-progress_rises c s (Of efficiency) = omega arith
-progress_rises c s Nothing = le_refl _
+pub progress_rises : (c : CraftContext) (s : CraftState) (e : Option ℕ) → s.progress ≤ progress_after c s e
+progress_rises c s (Some efficiency) = omega arith
+progress_rises c s None = le_refl _
 
 touchable : (c : CraftContext) (s : CraftState) {efficiency : ℕ} → Touching c s → efficiency ≤ quality_most
     → Touchable (c.quality_target - s.quality) c.base_quality_factor efficiency s.buffs.inner_quiet
 touchable c s t e = record { target = omega (arith, t.target); factor = t.factor; row = e; quiet = t.quiet }
 
-pub quality_at_most : (c : CraftContext) (s : CraftState) (n : ℕ) (e : Amount)
+pub quality_at_most : (c : CraftContext) (s : CraftState) (n : ℕ) (e : Option ℕ)
     → Touching c s → AtMost quality_most e → Where e (s.quality < c.quality_target) → quality_after c s n e ≤ amount_most
-quality_at_most c s n (Of efficiency) t h w =
+quality_at_most c s n (Some efficiency) t h w =
     omega (arith, quality_gain_at_most n s.buffs.innovation s.buffs.great_strides (touchable c s t h), t.target)
-quality_at_most c s n Nothing t h w = t.quality
+quality_at_most c s n None t h w = t.quality
 
-pub quality_rises : (c : CraftContext) (s : CraftState) (n : ℕ) (e : Amount) → s.quality ≤ quality_after c s n e
-quality_rises c s n (Of efficiency) = omega arith
-quality_rises c s n Nothing = le_refl _
+pub quality_rises : (c : CraftContext) (s : CraftState) (n : ℕ) (e : Option ℕ) → s.quality ≤ quality_after c s n e
+quality_rises c s n (Some efficiency) = omega arith
+quality_rises c s n None = le_refl _
 
-pub used_up_at_most : (e : Amount) {buff most : ℕ} → buff ≤ most → used_up e buff ≤ most
-used_up_at_most (Of efficiency) h = omega arith
-used_up_at_most Nothing h = h
+pub used_up_at_most : (e : Option ℕ) {buff most : ℕ} → buff ≤ most → used_up e buff ≤ most
+used_up_at_most (Some efficiency) h = omega arith
+used_up_at_most None h = h
 
-pub quiet_at_most : (c : CraftContext) (s : CraftState) (n : ℕ) (e : Amount) → s.buffs.inner_quiet ≤ quiet_most → quiet_after c s n e ≤ quiet_most
-quiet_at_most c s n (Of efficiency) h =
+pub quiet_at_most : (c : CraftContext) (s : CraftState) (n : ℕ) (e : Option ℕ) → s.buffs.inner_quiet ≤ quiet_most → quiet_after c s n e ≤ quiet_most
+quiet_at_most c s n (Some efficiency) h =
     cond_le (ltb c.player_job_level quiet_level) h
     (cond_le (eqb n A.ByregotsBlessing) (omega arith)
     (cond_le (doubles_quiet n s.previous_combo_action) (omega arith) (omega arith)))
-quiet_at_most c s n Nothing h = h
+quiet_at_most c s n None h = h
 
 -- ---- durability
 
@@ -75,12 +72,12 @@ wear_at_most cost perfection waste_not waste_not_ii = go perfection (ltb 0 waste
     go false true = omega arith
     go false false = le_refl cost
 
-pub worn_in : (s : CraftState) (most : ℤ) (cost : Amount)
+pub worn_in : (s : CraftState) (most : ℤ) (cost : Option ℕ)
     → DurabilityIn s.durability most → le_z s.durability (pos 0) ≡ false → AtMost wear_most cost → DurabilityIn (durability_after s cost) most
-worn_in s most (Of cost) r alive h =
+worn_in s most (Some cost) r alive h =
     let less = wear_at_most cost (is_active s.trained_perfection_active) s.buffs.waste_not s.buffs.waste_not_ii in
     hurt_in s.durability _ most r alive (le_trans less h)
-worn_in s most Nothing r alive h = r
+worn_in s most None r alive h = r
 
 pub mend_in : (n : ℕ) (d most : ℤ) → DurabilityIn d most → DurabilityIn (mend_after n d most) most
 mend_in n d most r = go (eqb n A.MastersMend) (eqb n A.ImmaculateMend)
@@ -92,14 +89,14 @@ mend_in n d most r = go (eqb n A.MastersMend) (eqb n A.ImmaculateMend)
 
 -- ---- points and combo
 
-pub points_at_most : (cp : ℕ) (combo : Combo) (n : ℕ) (cost : Amount) → cp_after cp combo n cost ≤ cp
+pub points_at_most : (cp : ℕ) (combo : Option Combo) (n : ℕ) (cost : Option ℕ) → cp_after cp combo n cost ≤ cp
 points_at_most cp combo n cost = sub-le cp _
 
 -- the points left and the price are the points before
-pub points_paid : (cp : ℕ) (combo : Combo) (n : ℕ) (cost : Amount) → Payable cp combo n cost → cp_after cp combo n cost + charge_of n combo cost ≡ cp
+pub points_paid : (cp : ℕ) (combo : Option Combo) (n : ℕ) (cost : Option ℕ) → Payable cp combo n cost → cp_after cp combo n cost + charge_of n combo cost ≡ cp
 points_paid cp combo n cost h = sub-add_cancel h
 
-pub combo_agrees_lem : (combo : Combo) (n : ℕ) → combo_agrees (combo_after combo n) (L.Was n) ≡ true
+pub combo_agrees_lem : (combo : Option Combo) (n : ℕ) → combo_agrees (combo_after combo n) (Some n) ≡ true
 combo_agrees_lem combo n =
     go (eqb n A.BasicTouch) refl (eqb n A.Observe) refl
     (eqb n A.StandardTouch && on_basic_touch combo) (both _ _) (eqb n A.RefinedTouch && on_basic_touch combo) (both _ _)
@@ -107,7 +104,7 @@ combo_agrees_lem combo n =
     go : (a : Bool) → eqb n A.BasicTouch ≡ a → (b : Bool) → eqb n A.Observe ≡ b
         → (x : Bool) → (x ≡ true → (eqb n A.StandardTouch ≡ true) × (on_basic_touch combo ≡ true))
         → (y : Bool) → (y ≡ true → (eqb n A.RefinedTouch ≡ true) × (on_basic_touch combo ≡ true))
-        → combo_agrees (cond a C.BasicTouch (cond b C.Observe (cond x C.StandardTouch (cond y C.RefinedTouch C.Nothing)))) (L.Was n) ≡ true
+        → combo_agrees (cond a (Some C.BasicTouch) (cond b (Some C.Observe) (cond x (Some C.StandardTouch) (cond y (Some C.RefinedTouch) None)))) (Some n) ≡ true
     go true p b q x f y g = p
     go false p true q x f y g = q
     go false p false q true f y g = (f refl).0
