@@ -1,7 +1,7 @@
 // The way down in a tree of few records: one pass over them finds the best child of each.
 ghost use Rattle.std.specs.Prelude.{◌≡◌, ◌<◌, ◌≤◌, ◌&&◌, length, nat_le};
 ghost use Rattle.tree.specs.Paths.{Solves};
-ghost use Rattle.tree.specs.inner.Few.{few, worth_a_table, entry_at, Noting, child_noted, Blank, Bests, Rises, way_of};
+ghost use Rattle.tree.specs.inner.Few.{few, worth_a_table, entry_at, taken_at, Noting, child_noted, Blank, Bests, Rises, way_of};
 ghost use Rattle.tree.specs.inner.Sound.{SoundTree};
 
 use super::best::{Best, is_better};
@@ -9,7 +9,7 @@ use super::node::Node;
 use super::records::node_at;
 use refusal::Refusal;
 
-// As many records as the table of their best children has room for.
+// As many records as the table of their best children has room for. It has 0 for none: of optional numbers it would be twice as long.
 const FEW: usize = 4096;
 
 // Speed alone: with fewer, a search at each step is mostly the faster. compare/reference/src/trees/ways.rs counts by both bounds.
@@ -21,19 +21,27 @@ pub fn fits_table(count: usize) -> bool
     (WORTH_A_TABLE..=FEW).contains(&count)
 }
 
-// Record k takes the place of the best child so far of its parent, if it is better. Where its parent has no child yet the table says 0, whose record
-// is read and not compared.
+// The best child of record p that the table has, where 0 is for none.
+fn best_at(nodes: &[Node], best: &[u32], p: usize) -> Option<Best>
+    requires { (p < length best.now) × (entry_at best.now p < length nodes.now) }
+    ensures { result ≡ taken_at nodes.now (entry_at best.now p) }
+{
+    match best[p] as usize {
+        0 => None,
+        at => Some(Best {
+            at,
+            max_score: node_at(nodes, at).max_score,
+        }),
+    }
+}
+
+// Record k takes the place of the best child so far of its parent, if it is better.
 fn note_child(nodes: &[Node], best: &mut [u32], k: usize)
     requires { Noting nodes.now best.old k }
     ensures { best.new ≡ child_noted nodes.now best.old k }
 {
     let n = node_at(nodes, k);
-    let at = best[n.parent] as usize;
-    let m = node_at(nodes, at);
-    let found = Best {
-        at,
-        max_score: m.max_score,
-    };
+    let found = best_at(nodes, best, n.parent);
     if is_better(found, n) {
         best[n.parent] = k as u32;
     }

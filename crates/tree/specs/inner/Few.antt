@@ -1,8 +1,9 @@
 -- Inner: a tree of few records, by a table that has for each record its best child. Contracts of inner functions cite it, and no statement of an entry
 -- rests on it.
 -- Assumes nothing.
-use Rattle.std.specs.Prelude.{◌≡◌, ℕ, zero, suc, ◌<◌, ◌≤◌, cond, List, [], length, slice_index, slice_set}
+use Rattle.std.specs.Prelude.{◌≡◌, ℕ, zero, suc, ◌<◌, ◌≤◌, cond, List, [], length, slice_index, slice_set, Option, Some, None}
 use Rattle.tree.specs.declared.node.Node.{Node}
+use Rattle.tree.specs.declared.best.Best.{Best}
 use Rattle.tree.specs.Tree.{node_at, best_of, onward}
 use Rattle.tree.specs.inner.Best.{is_better, taken}
 use Rattle.tree.specs.inner.Sound.{SoundTree}
@@ -19,14 +20,15 @@ worth_a_table = 12
 abbrev pub entry_at : List ℕ → ℕ → ℕ
 entry_at best p = slice_index best p
 
--- record k comes after those of which record b, that is m, is the best child of its parent
-abbrev pub noted_of : List ℕ → ℕ → Node → ℕ → Node → List ℕ
-noted_of best k n b m = cond (is_better (taken b m) n) (slice_set best n.parent k) best
+-- the same with its max_score, which its record has
+abbrev pub taken_at : List Node → ℕ → Option Best
+taken_at nodes zero = None
+taken_at nodes (suc b) = Some (taken (suc b) (node_at nodes (suc b)))
 
--- record k, by the records and the table
+-- record k comes after those that the table has the best of
 abbrev pub child_noted : List Node → List ℕ → ℕ → List ℕ
 child_noted nodes best k =
-    noted_of best k (node_at nodes k) (entry_at best (node_at nodes k).parent) (node_at nodes (entry_at best (node_at nodes k).parent))
+    cond (is_better (taken_at nodes (entry_at best (node_at nodes k).parent)) (node_at nodes k)) (slice_set best (node_at nodes k).parent k) best
 
 -- what reading and writing them asks
 pub record Noting (nodes : List Node) (best : List ℕ) (k : ℕ) : Type 0 where

@@ -1,6 +1,6 @@
 -- Laws of the table of best children: what it has after each record of the pass, and that the way down by it is that of document 01's rule.
 -- Assumes nothing.
-use Rattle.std.specs.Prelude.{◌≡◌, ℕ, zero, suc, ◌+◌, ◌<◌, ◌≤◌, Bool, true, false, cond, List, length, replicate, ◌==◌, ◌≢◌, nat_lt, slice_set}
+use Rattle.std.specs.Prelude.{◌≡◌, ℕ, zero, suc, ◌+◌, ◌<◌, ◌≤◌, Bool, true, false, cond, List, length, replicate, ◌==◌, ◌≢◌, nat_lt, slice_set, Float, Option, Some, None}
 use Rattle.std.proofs.Math.Path.{refl, sym}
 use Rattle.std.proofs.Common.{ap, ◌∙◌, arith, length-set, get_or-set_same, get_or-set_other}
 use Rattle.std.proofs.lemmas.List.{length-map, length-replicate}
@@ -9,11 +9,11 @@ use borrow.Author.Tests.{ltb-true, ltb-false, eqb-true, eqb-false, eq-eqb, ne_eq
 use Rattle.tree.specs.declared.node.Node.{Node}
 use Rattle.tree.specs.declared.best.Best.{Best}
 use Rattle.tree.specs.Tree.{node_at, best_of, onward, descent_of, solution_of}
-use Rattle.tree.specs.inner.Best.{taken, is_better, pick_of, best_to}
+use Rattle.tree.specs.inner.Best.{taken, is_better, pick_of, best_to, at_of}
 use Rattle.tree.specs.inner.Sound.{SoundTree}
-use Rattle.tree.specs.inner.Few.{few, entry_at, noted_of, child_noted, Bests, Blank, follow_in, Rises, way_of}
+use Rattle.tree.specs.inner.Few.{few, entry_at, taken_at, child_noted, Bests, Blank, follow_in, Rises, way_of}
 use Rattle.tree.specs.laws.Tree.{tree_falls}
-use Rattle.tree.specs.laws.Best.{best_first, best_next, best_child, best_rule}
+use Rattle.tree.specs.laws.Best.{best_first, best_next, child_some, IsBest, best_child, best_rule}
 use Rattle.tree.specs.laws.Follow.{follow_steps, follow_next, follow_length, follow_same}
 use Rattle.tree.specs.laws.Solution.{best_below, best_rises, tree_rises, descent_follows}
 
@@ -21,7 +21,7 @@ use Rattle.tree.specs.laws.Solution.{best_below, best_rises, tree_rises, descent
 
 -- each record's best child among the first m
 abbrev pub BestsTo : ℕ → List Node → List ℕ → Type 0
-BestsTo m nodes best = (p : ℕ) → p < length best → entry_at best p ≡ (best_to m nodes p).at
+BestsTo m nodes best = (p : ℕ) → p < length best → entry_at best p ≡ at_of (best_to m nodes p)
 
 -- a table of zeros
 blank_entry : (n p : ℕ) → entry_at (replicate n 0) p ≡ 0
@@ -37,13 +37,13 @@ blank_table tree most best e =
     record { tree = tree; room = omega (arith, most, blank_length best e); most = most; none = λ p. ap (λ (l : List ℕ). entry_at l p) e ∙ blank_entry few p }
 
 pub bests_first : {nodes : List Node} {count : ℕ} {best : List ℕ} → Blank nodes count best → BestsTo 1 nodes best
-bests_first {nodes} blank p h = blank.none p ∙ sym (ap (λ (b : Best). b.at) (best_first nodes p))
+bests_first {nodes} blank p h = blank.none p ∙ sym (ap at_of (best_first nodes p))
 
-noted_length : (best : List ℕ) (k : ℕ) (n : Node) (b : ℕ) (m : Node) → length (noted_of best k n b m) ≡ length best
-noted_length best k n b m = go (is_better (taken b m) n)
+noted_length : (nodes : List Node) (best : List ℕ) (k : ℕ) → length (child_noted nodes best k) ≡ length best
+noted_length nodes best k = go (is_better (taken_at nodes (entry_at best (node_at nodes k).parent)) (node_at nodes k))
   where
-    go : (t : Bool) → length (cond t (slice_set best n.parent k) best) ≡ length best
-    go true = length-set best n.parent k
+    go : (t : Bool) → length (cond t (slice_set best (node_at nodes k).parent k) best) ≡ length best
+    go true = length-set best (node_at nodes k).parent k
     go false = refl
 
 module _ (nodes : List Node) (k : ℕ) (some : 0 < k) (best : List ℕ) (before : BestsTo k nodes best) (room : (node_at nodes k).parent < length best) where
@@ -52,30 +52,37 @@ module _ (nodes : List Node) (k : ℕ) (some : 0 < k) (best : List ℕ) (before 
 
   -- a best child is among the first records
   pub entry_before : entry_at best above < k
-  entry_before = rw (before above room) (go (best_to k nodes above).at refl)
+  entry_before = rw (before above room) (go (best_to k nodes above) (best_child k nodes above))
     where
-      go : (b : ℕ) → (best_to k nodes above).at ≡ b → b < k
-      go zero e = some
-      go (suc b) e = rw e at (best_child k nodes above (omega (arith, e))).below
+      go : (c : Option Best) → IsBest k nodes above c → at_of c < k
+      go None e = some
+      go (Some b) e = e.below
 
   -- its max_score is that of its record
-  better_same : is_better (taken (entry_at best above) (node_at nodes (entry_at best above))) (node_at nodes k) ≡ is_better (best_to k nodes above) (node_at nodes k)
-  better_same = rw (before above room) (go (best_to k nodes above).at refl)
+  taken_same : taken_at nodes (entry_at best above) ≡ best_to k nodes above
+  taken_same = rw (before above room) (go (best_to k nodes above) (best_child k nodes above))
     where
-      go : (b : ℕ) → (best_to k nodes above).at ≡ b
-          → is_better (taken (best_to k nodes above).at (node_at nodes (best_to k nodes above).at)) (node_at nodes k) ≡ is_better (best_to k nodes above) (node_at nodes k)
-      go zero e = rw e refl
-      go (suc b) e = rw (best_child k nodes above (omega (arith, e))).score refl
+      at : (b : ℕ) → 0 < b → taken_at nodes b ≡ Some (taken b (node_at nodes b))
+      at zero h = absurd (omega arith)
+      at (suc b) h = refl
+
+      go : (c : Option Best) → IsBest k nodes above c → taken_at nodes (at_of c) ≡ c
+      go None e = refl
+      go (Some b) e =
+          at b.at (child_some b.at (node_at nodes b.at) above e.child)
+          ∙ ap (λ (s : Float). Some (record { at = b.at; max_score = s })) (sym e.score)
+
+  abbrev better : Bool
+  better = is_better (best_to k nodes above) (node_at nodes k)
 
   -- the parent's entry
-  taken_here : (t : Bool) → entry_at (cond t (slice_set best above k) best) above ≡ (cond t (taken k (node_at nodes k)) (best_to k nodes above)).at
+  taken_here : (t : Bool) → entry_at (cond t (slice_set best above k) best) above ≡ at_of (cond t (Some (taken k (node_at nodes k))) (best_to k nodes above))
   taken_here true = get_or-set_same best above k 0 room
   taken_here false = before above room
 
-  best_here : best_to (k + 1) nodes above
-      ≡ cond (is_better (taken (entry_at best above) (node_at nodes (entry_at best above))) (node_at nodes k)) (taken k (node_at nodes k)) (best_to k nodes above)
+  best_here : best_to (k + 1) nodes above ≡ cond better (Some (taken k (node_at nodes k))) (best_to k nodes above)
   unfolding pick_of
-  best_here = sym (best_next k nodes above) ∙ rw (ne_eqb k 0 (λ z. omega arith), eq-eqb above above refl, better_same) refl
+  best_here = sym (best_next k nodes above) ∙ rw (ne_eqb k 0 (λ z. omega arith), eq-eqb above above refl) refl
 
   -- any other
   taken_there : (p : ℕ) → (p ≢ above) → (t : Bool) → entry_at (cond t (slice_set best above k) best) p ≡ entry_at best p
@@ -88,17 +95,13 @@ module _ (nodes : List Node) (k : ℕ) (some : 0 < k) (best : List ℕ) (before 
 
   -- THE law of the pass
   pub bests_next : BestsTo (k + 1) nodes (child_noted nodes best k)
-  bests_next p h = go (p == above) refl
+  bests_next p h = rw taken_same (go (p == above) refl)
     where
-      b : ℕ
-      b = entry_at best above
-
-      go : (t : Bool) → (p == above) ≡ t → entry_at (child_noted nodes best k) p ≡ (best_to (k + 1) nodes p).at
-      go true e = rw (eqb-true p above e) (taken_here (is_better (taken b (node_at nodes b)) (node_at nodes k)) ∙ sym (ap (λ (c : Best). c.at) best_here))
+      go : (t : Bool) → (p == above) ≡ t → entry_at (cond better (slice_set best above k) best) p ≡ at_of (best_to (k + 1) nodes p)
+      go true e = rw (eqb-true p above e) (taken_here better ∙ sym (ap at_of best_here))
       go false e =
           let other : p ≡ above → ⊥ = eqb-false p above e in
-          taken_there p other (is_better (taken b (node_at nodes b)) (node_at nodes k))
-          ∙ before p (rw (noted_length best k (node_at nodes k) b (node_at nodes b)) at h) ∙ sym (ap (λ (c : Best). c.at) (best_there p other))
+          taken_there p other better ∙ before p (rw (noted_length nodes best k) at h) ∙ sym (ap at_of (best_there p other))
 
 pub bests_all : (nodes : List Node) (count : ℕ) → SoundTree nodes count → (best : List ℕ) → BestsTo count nodes best → Bests nodes count best
 bests_all nodes count tree best all p h = all p h ∙ best_rule nodes count tree p
