@@ -1,15 +1,13 @@
 -- Document 01, 'Legal moves': the rules of price and quality, the strict rules in source order, and each action's own rule (craft_state.rs),
 -- of a state and a candidate by its row. A rule holds where the candidate may pass.
 -- Assumes nothing.
-use Rattle.std.specs.Prelude.{Bool, true, false, cond, not, ◌&&◌, ◌||◌, ℕ, ◌+◌, ◌/◌, eqb, leb, ltb, pos, ◌-ℤ◌}
+use Rattle.std.specs.Prelude.{Bool, true, false, cond, not, ◌&&◌, ◌||◌, ℕ, ◌+◌, ◌/◌, eqb, leb, ltb, pos, ◌-ℤ◌, Option, Some, None}
 use Rattle.std.specs.Int.Signed.{le_z, lt_z}
 use Rattle.laws.specs.Bits.{has}
 use Rattle.action.specs.Actions as A
 use Rattle.action.specs.Limits.{quiet_most}
 use Rattle.action.specs.Gain.{progress_gain_of}
 use Rattle.action.specs.Price.{affordable}
-use Rattle.action.specs.declared.table.Amount.{Amount}
-use Rattle.action.specs.declared.table.Amount.TheVariants.{Of, Nothing}
 use Rattle.action.specs.declared.table.Attributes.{Attributes}
 use Rattle.action.specs.declared.price.Combo.{Combo}
 use Rattle.action.specs.declared.price.Combo.TheVariants as C
@@ -23,13 +21,13 @@ use Rattle.step.specs.Parts.{on_basic_touch, wear}
 -- ---- in either mode
 
 -- the full price, whatever combo the candidate would continue: the source reads the last action, which never has a discount
-abbrev pub affords : CraftState → ℕ → Amount → Bool
+abbrev pub affords : CraftState → ℕ → Option ℕ → Bool
 affords s n cost = affordable s.cp cost
 
 -- no quality action once quality is at its target
-abbrev pub may_improve : CraftContext → CraftState → Amount → Bool
-may_improve c s (Of efficiency) = ltb s.quality c.quality_target
-may_improve c s Nothing = true
+abbrev pub may_improve : CraftContext → CraftState → Option ℕ → Bool
+may_improve c s (Some efficiency) = ltb s.quality c.quality_target
+may_improve c s None = true
 
 -- ---- in strict mode
 
@@ -38,38 +36,38 @@ abbrev pub eye_alone : CraftContext → CraftState → Bool
 eye_alone c s = eqb s.step step_least && ltb 0 c.quality_target && not c.is_expert && has c.action_pool.0 A.TrainedEye
 
 -- no quality action under muscle memory where player and recipe are of one level
-abbrev pub outside_memory : CraftContext → CraftState → Amount → Bool
-outside_memory c s (Of quality) = not (eqb c.recipe_job_level c.player_job_level && ltb 0 s.buffs.muscle_memory)
-outside_memory c s Nothing = true
+abbrev pub outside_memory : CraftContext → CraftState → Option ℕ → Bool
+outside_memory c s (Some quality) = not (eqb c.recipe_job_level c.player_job_level && ltb 0 s.buffs.muscle_memory)
+outside_memory c s None = true
 
 -- no pure quality action under veneration
-abbrev pub outside_veneration : CraftState → Amount → Amount → Bool
-outside_veneration s (Of progress) quality = true
-outside_veneration s Nothing (Of quality) = eqb s.buffs.veneration 0
-outside_veneration s Nothing Nothing = true
+abbrev pub outside_veneration : CraftState → Option ℕ → Option ℕ → Bool
+outside_veneration s (Some progress) quality = true
+outside_veneration s None (Some quality) = eqb s.buffs.veneration 0
+outside_veneration s None None = true
 
-abbrev pub on_observe : Combo → Bool
-on_observe C.Nothing = false
-on_observe C.BasicTouch = false
-on_observe C.StandardTouch = false
-on_observe C.RefinedTouch = false
-on_observe C.Observe = true
+abbrev pub on_observe : Option Combo → Bool
+on_observe None = false
+on_observe (Some C.BasicTouch) = false
+on_observe (Some C.StandardTouch) = false
+on_observe (Some C.RefinedTouch) = false
+on_observe (Some C.Observe) = true
 
 -- after Observe only AdvancedTouch
 abbrev pub after_observe : CraftState → ℕ → Bool
 after_observe s n = not (on_observe s.previous_combo_action) || eqb n A.AdvancedTouch
 
 -- no pure progress under innovation
-abbrev pub unless_pure : CraftState → Amount → Bool
-unless_pure s (Of quality) = true
-unless_pure s Nothing = eqb s.buffs.innovation 0
+abbrev pub unless_pure : CraftState → Option ℕ → Bool
+unless_pure s (Some quality) = true
+unless_pure s None = eqb s.buffs.innovation 0
 
 -- no finish while quality is below a fifth of its target; what does not finish is no pure progress under innovation
-abbrev pub may_progress : CraftContext → CraftState → Amount → Amount → Bool
-may_progress c s (Of efficiency) quality =
+abbrev pub may_progress : CraftContext → CraftState → Option ℕ → Option ℕ → Bool
+may_progress c s (Some efficiency) quality =
     let gain = progress_gain_of c.base_progress_factor efficiency s.buffs.veneration s.buffs.muscle_memory in
     cond (leb c.progress_target (s.progress + gain)) (leb (c.quality_target / 5) s.quality) (unless_pure s quality)
-may_progress c s Nothing quality = true
+may_progress c s None quality = true
 
 -- ---- each action's own rule
 
@@ -82,9 +80,9 @@ abbrev pub no_waste_not : CraftState → Bool
 no_waste_not s = eqb s.buffs.waste_not 0 && eqb s.buffs.waste_not_ii 0
 
 -- durability is enough for the cost
-abbrev pub withstands : CraftState → Amount → Bool
-withstands s (Of cost) = le_z (pos (wear s cost)) s.durability
-withstands s Nothing = true
+abbrev pub withstands : CraftState → Option ℕ → Bool
+withstands s (Some cost) = le_z (pos (wear s cost)) s.durability
+withstands s None = true
 
 -- in either mode
 unfoldable pub own_rule : CraftContext → CraftState → ℕ → Attributes → Bool

@@ -9,32 +9,15 @@ ghost use Rattle.craft_state.specs.Inside.{CraftIn};
 ghost use Rattle.moves.specs.Rules.{may_progress};
 ghost use Rattle.moves.specs.inner.Sets.{amount_of, finishes_with, finishing_of};
 
+use super::candidate::can_pay;
 use super::sets::{PURE_PROGRESS, unless};
 use super::strict::QUALITY_PART;
-use action::Amount;
 use action_set::bits;
 use craft_context::CraftContext;
 use craft_state::CraftState;
 
-// None counts 0.
-fn amount(attribute: Amount) -> u32
-    ensures { result ≡ amount_of attribute }
-{
-    let Amount::Of(so_much) = attribute else {
-        return 0;
-    };
-    so_much
-}
-
-pub fn is_payable(points: u32, n: u8) -> bool
-    ensures { result ≡ affordable points (attributes_of n).cp_cost }
-{
-    let row = action::attributes_of(n);
-    let cost = row.cp_cost;
-    amount(cost) <= points
-}
-
-// The full price, as `can_pay`. Points for the dearest are enough for all. For the loop of replay alone, as `step::execute`.
+// Points for the dearest are enough for all.
+#[inline(always)]
 pub fn keep_payable(points: u32, set: u32) -> u32
     requires { SetIn set }
     ensures { (result ≡ keep_of (λ n. affordable points (attributes_of n).cp_cost) set) × SetIn result }
@@ -42,26 +25,16 @@ pub fn keep_payable(points: u32, set: u32) -> u32
     if points >= action::DEAREST {
         return set;
     }
-    let mut kept = set;
-    let mut remaining = set;
-    while remaining != 0 {
-        let n = bits::next(remaining);
-        let b = bits::bit(n);
-        remaining -= b;
-        if !is_payable(points, n) {
-            kept -= b;
-        }
-    }
-    kept
+    bits::keep(set, |n| can_pay(points, action::attributes_of(n).cp_cost))
 }
 
+#[tactic(auto, using(action::specs::laws::Bounds::rows_bounded, crate::specs::laws::Amounts::amount_at_most))]
 fn efficiency_of(n: u8) -> u32
     requires { n < actions }
     ensures { (result ≡ amount_of (attributes_of n).progress_efficiency) × (result ≤ progress_most) }
 {
-    let row = action::attributes_of(n);
-    let progress = row.progress_efficiency;
-    amount(progress)
+    let progress = action::attributes_of(n).progress_efficiency;
+    progress.unwrap_or(0)
 }
 
 // Progress reaches its target.
@@ -82,17 +55,7 @@ pub fn keep_finishing(context: CraftContext, state: CraftState, set: u32) -> u32
     requires { CraftIn context state × SetIn set }
     ensures { (result ≡ keep_of (λ n. finishes_with context state (amount_of (attributes_of n).progress_efficiency)) set) × SetIn result }
 {
-    let mut kept = set;
-    let mut remaining = set;
-    while remaining != 0 {
-        let n = bits::next(remaining);
-        let b = bits::bit(n);
-        remaining -= b;
-        if !finishes(context, state, n) {
-            kept -= b;
-        }
-    }
-    kept
+    bits::keep(set, |n| finishes(context, state, n))
 }
 
 // `may_progress`: of those that finish, and of those that do not.

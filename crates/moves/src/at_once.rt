@@ -17,6 +17,7 @@ use craft_context::CraftContext;
 use craft_state::CraftState;
 
 // The rules of `strictly`, in another order: what strict mode leaves of what the own rules left.
+#[inline(always)]
 fn strict_part(context: CraftContext, state: CraftState, set: u32) -> u32
     requires { CraftIn context state × SetIn set }
     ensures { (result ≡ keep_of (λ n. strict_beyond context state n (attributes_of n)) set) × SetIn result }
@@ -30,7 +31,8 @@ fn strict_part(context: CraftContext, state: CraftState, set: u32) -> u32
     progress_moves(context, state, kind, finish)
 }
 
-// The rules of `allowed`, in another order: the price, which is a walk, comes last. For the loop of replay alone, as `step::execute`.
+// The rules of `allowed`, in another order: the price, which is a walk, comes last. One piece with each caller, as `step::execute`.
+#[inline(always)]
 pub fn moves_at_once(context: CraftContext, state: CraftState, mode: Mode) -> u32
     requires { CraftIn context state }
     ensures { (result ≡ moves_of context state mode) × SetIn result }
@@ -38,8 +40,8 @@ pub fn moves_at_once(context: CraftContext, state: CraftState, mode: Mode) -> u3
     if has_ended(context, state) {
         return 0;
     }
-    let pool = context.action_pool;
-    let set = unless(pool.0, QUALITY, state.quality < context.quality_target);
+    let pool = context.action_pool.0;
+    let set = unless(pool, QUALITY, state.quality < context.quality_target);
     let own = own_moves(context, state, set);
     if mode.strict {
         return keep_payable(state.cp, strict_part(context, state, own));

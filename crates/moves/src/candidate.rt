@@ -2,55 +2,58 @@
 ghost use Rattle.std.specs.Prelude.{◌≡◌, ◌<◌};
 ghost use Rattle.action.specs.Known.{actions};
 ghost use Rattle.action.specs.Bounds.{RowBounds};
+ghost use Rattle.action.specs.Price.{affordable};
 ghost use Rattle.craft_state.specs.Inside.{CraftIn};
-ghost use Rattle.moves.specs.Rules.{affords, may_improve};
+ghost use Rattle.moves.specs.Rules.{may_improve};
 ghost use Rattle.moves.specs.Moves.{allowed_of, allows_of};
 
 use super::mode::Mode;
 use super::own::own_rule;
 use super::strict::strictly;
-use action::{Amount, Attributes};
+use action::Attributes;
 use craft_context::CraftContext;
 use craft_state::CraftState;
 
 // The full price: the candidate's combo does not count, as in the Rust.
-fn can_pay(state: CraftState, n: u8, attribute: Amount) -> bool
-    ensures { result ≡ affords state n attribute }
+pub fn can_pay(points: u32, price: Option<u32>) -> bool
+    ensures { result ≡ affordable points price }
 {
-    let Amount::Of(cost) = attribute else {
+    let Some(cost) = price else {
         return true;
     };
-    let points = state.cp;
     cost <= points
 }
 
 // No quality action once quality is at its target.
-fn may_improve(context: CraftContext, state: CraftState, attribute: Amount) -> bool
+fn may_improve(context: CraftContext, state: CraftState, attribute: Option<u32>) -> bool
     ensures { result ≡ may_improve context state attribute }
 {
-    let Amount::Of(_) = attribute else {
+    let Some(_) = attribute else {
         return true;
     };
     state.quality < context.quality_target
 }
 
 // One candidate by its row.
+#[tactic(auto, unfolding(crate::specs::Moves::allowed_of))]
 pub fn allowed(context: CraftContext, state: CraftState, mode: Mode, n: u8, row: Attributes) -> bool
     requires { CraftIn context state × RowBounds n row }
     ensures { result ≡ allowed_of context state mode n row }
 {
     let cost = row.cp_cost;
     let quality = row.quality_efficiency;
-    if can_pay(state, n, cost) & may_improve(context, state, quality) {
-        if mode.strict {
-            return strictly(context, state, n, row);
-        }
-        return own_rule(context, state, n, row);
+    if !(can_pay(state.cp, cost) & may_improve(context, state, quality)) {
+        return false;
     }
-    false
+    if mode.strict {
+        strictly(context, state, n, row)
+    } else {
+        own_rule(context, state, n, row)
+    }
 }
 
 // By its row of the table.
+#[tactic(auto, using(action::specs::laws::Bounds::rows_bounded))]
 pub fn allows(context: CraftContext, state: CraftState, mode: Mode, n: u8) -> bool
     requires { CraftIn context state × (n < actions) }
     ensures { result ≡ allows_of context state mode n }

@@ -28,17 +28,7 @@ fn keep_allowed(context: CraftContext, state: CraftState, mode: Mode, set: u32) 
     requires { CraftIn context state × SetIn set }
     ensures { (result ≡ keep_of (allows_of context state mode) set) × SetIn result }
 {
-    let mut kept = set;
-    let mut remaining = set;
-    while remaining != 0 {
-        let n = bits::next(remaining);
-        let b = bits::bit(n);
-        remaining -= b;
-        if !allows(context, state, mode, n) {
-            kept -= b;
-        }
-    }
-    kept
+    bits::keep(set, |n| allows(context, state, mode, n))
 }
 
 // One candidate of a state that has not ended, by its row: the pool has it, and it passes the test.
@@ -46,11 +36,7 @@ pub fn passes(context: CraftContext, state: CraftState, mode: Mode, n: u8, row: 
     requires { CraftIn context state × (n < actions) × RowBounds n row }
     ensures { result ≡ passed_of context state mode n row }
 {
-    let pool = context.action_pool;
-    if bits::holds(pool.0, n) {
-        return allowed(context, state, mode, n, row);
-    }
-    false
+    bits::holds(context.action_pool.0, n) && allowed(context, state, mode, n, row)
 }
 
 // One candidate of any state, by its row: by `has_moves` the same as looking it up in the moves.
@@ -64,13 +50,11 @@ pub fn is_legal(
     requires { CraftIn context state × (n < actions) × RowBounds n row }
     ensures { result ≡ legal_of context state mode n row }
 {
-    if has_ended(context, state) {
-        return false;
-    }
-    passes(context, state, mode, n, row)
+    !has_ended(context, state) && passes(context, state, mode, n, row)
 }
 
 // The walk over the pool.
+#[tactic(auto, unfolding(crate::specs::Moves::moves_by))]
 pub fn legal_moves(context: CraftContext, state: CraftState, mode: Mode) -> u32
     requires { CraftIn context state }
     ensures { (result ≡ moves_of context state mode) × SetIn result }
@@ -78,6 +62,5 @@ pub fn legal_moves(context: CraftContext, state: CraftState, mode: Mode) -> u32
     if has_ended(context, state) {
         return 0;
     }
-    let pool = context.action_pool;
-    keep_allowed(context, state, mode, pool.0)
+    keep_allowed(context, state, mode, context.action_pool.0)
 }

@@ -9,10 +9,8 @@ mod legal;
 mod mode;
 mod own;
 mod sets;
-mod single;
 mod strict;
 
 pub use at_once::moves_at_once;
 pub use legal::{has_ended, is_legal, legal_moves, passes};
 pub use mode::{Mode, mode_of};
-pub use single::strict_at_once;

@@ -2,7 +2,8 @@
 ghost use Rattle.std.specs.Prelude.{◌≡◌};
 ghost use Rattle.moves.specs.Modes.{mode_of};
 
-#[derive(Clone, Copy)]
+// A struct, not an enum, since its modes are constants that belong to the type (docs/DECISIONS.md, "Forms").
+#[derive(Clone, Copy, Debug, PartialEq, Eq)]
 pub struct Mode {
     pub strict: bool,
 }
@@ -17,8 +18,5 @@ impl Mode {
 pub fn mode_of(strict: bool) -> Mode
     ensures { result ≡ mode_of strict }
 {
-    if strict {
-        return Mode::STRICT;
-    }
-    Mode::PLAIN
+    if strict { Mode::STRICT } else { Mode::PLAIN }
 }

@@ -6,7 +6,7 @@ ghost use Rattle.action.specs.Limits.{wear_most};
 ghost use Rattle.craft_state.specs.Inside.{DurabilityIn};
 ghost use Rattle.moves.specs.Rules.{is_unused, no_waste_not, on_observe, withstands, own_rule, strict_rule};
 
-use action::{Amount, Attributes, Combo};
+use action::{Attributes, Combo};
 use craft_context::CraftContext;
 use craft_state::{Buffs, CraftState, Perfection};
 
@@ -24,11 +24,7 @@ pub const QUICK_PART: u32 = 3;
 pub fn is_unused(perfection: Perfection) -> bool
     ensures { result ≡ is_unused perfection }
 {
-    match perfection {
-        Perfection::Unused => true,
-        Perfection::Active => false,
-        Perfection::Spent => false,
-    }
+    perfection == Perfection::Unused
 }
 
 pub fn no_waste_not(state: CraftState) -> bool
@@ -37,30 +33,25 @@ pub fn no_waste_not(state: CraftState) -> bool
     (state.buffs.waste_not == 0) & (state.buffs.waste_not_ii == 0)
 }
 
-pub fn on_observe(combo: Combo) -> bool
+pub fn on_observe(combo: Option<Combo>) -> bool
     ensures { result ≡ on_observe combo }
 {
-    match combo {
-        Combo::Nothing => false,
-        Combo::BasicTouch => false,
-        Combo::StandardTouch => false,
-        Combo::RefinedTouch => false,
-        Combo::Observe => true,
-    }
+    matches!(combo, Some(Combo::Observe))
 }
 
 // Durability is enough for the cost.
-pub fn can_withstand(state: CraftState, attribute: Amount) -> bool
+pub fn can_withstand(state: CraftState, attribute: Option<u32>) -> bool
     requires { AtMost wear_most attribute }
     ensures { result ≡ withstands state attribute }
 {
-    let Amount::Of(cost) = attribute else {
+    let Some(cost) = attribute else {
         return true;
     };
     let off = step::wears(state, cost);
     state.durability >= off as i8
 }
 
+#[tactic(auto, unfolding(crate::specs::Rules::own_rule))]
 pub fn own_rule(context: CraftContext, state: CraftState, n: u8, row: Attributes) -> bool
     requires { RowBounds n row }
     ensures { result ≡ own_rule context state n row }
@@ -93,6 +84,7 @@ pub fn lost(durability: i8, most: i8) -> i8
     most - durability
 }
 
+#[tactic(auto, unfolding(crate::specs::Rules::strict_rule))]
 pub fn strict_rule(context: CraftContext, state: CraftState, n: u8) -> bool
     requires { DurabilityIn state.durability context.durability_max }
     ensures { result ≡ strict_rule context state n }

@@ -83,6 +83,7 @@ const ONLY_MASTERS_MEND: u32 = 1 << action::MASTERS_MEND;
 const ONLY_GREAT_STRIDES: u32 = 1 << action::GREAT_STRIDES;
 
 // What a rule over some actions leaves of a set: all where it holds, else the others.
+#[tactic(auto, using(crate::specs::laws::Leaves::unless_held, crate::specs::laws::Leaves::unless_broken))]
 pub fn unless(set: u32, over: u32, holds: bool) -> u32
     requires { SetIn set }
     ensures { (result ≡ unless_of set over holds) × SetIn result }
@@ -102,13 +103,12 @@ pub fn within(set: u32, other: u32) -> u32
 }
 
 // Durability is enough for the cost of an action.
+#[tactic(auto, using(action::specs::laws::Bounds::rows_bounded))]
 fn is_withstood(state: CraftState, n: u8) -> bool
     requires { n < actions }
     ensures { result ≡ withstands state (attributes_of n).durability_cost }
 {
-    let row = action::attributes_of(n);
-    let cost = row.durability_cost;
-    can_withstand(state, cost)
+    can_withstand(state, action::attributes_of(n).durability_cost)
 }
 
 // The arms of `own_rule`, a line to each; the two Groundworks have a row each, and so a line each.

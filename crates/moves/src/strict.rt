@@ -7,7 +7,7 @@ ghost use Rattle.moves.specs.Rules.{eye_alone, outside_memory, outside_veneratio
 ghost use Rattle.moves.specs.Moves.{strictly_of};
 
 use super::own::{on_observe, own_rule, strict_rule};
-use action::{Amount, Attributes};
+use action::Attributes;
 use action_set::bits;
 use craft_context::CraftContext;
 use craft_state::CraftState;
@@ -19,31 +19,30 @@ pub const QUALITY_PART: u32 = 5;
 pub fn is_eye_alone(context: CraftContext, state: CraftState) -> bool
     ensures { result ≡ eye_alone context state }
 {
-    let pool = context.action_pool;
     (state.step == CraftState::STEP_LEAST)
         & (context.quality_target > 0)
         & !context.is_expert
-        & bits::holds(pool.0, action::TRAINED_EYE)
+        & bits::holds(context.action_pool.0, action::TRAINED_EYE)
 }
 
 // No quality action under muscle memory where player and recipe are of one level.
-fn is_outside_memory(context: CraftContext, state: CraftState, quality: Amount) -> bool
+fn is_outside_memory(context: CraftContext, state: CraftState, quality: Option<u32>) -> bool
     ensures { result ≡ outside_memory context state quality }
 {
-    let Amount::Of(_) = quality else {
+    let Some(_) = quality else {
         return true;
     };
     !((context.recipe_job_level == context.player_job_level) & (state.buffs.muscle_memory > 0))
 }
 
 // No pure quality action under veneration.
-fn is_outside_veneration(state: CraftState, progress: Amount, quality: Amount) -> bool
+fn is_outside_veneration(state: CraftState, progress: Option<u32>, quality: Option<u32>) -> bool
     ensures { result ≡ outside_veneration state progress quality }
 {
-    let Amount::Nothing = progress else {
+    let None = progress else {
         return true;
     };
-    let Amount::Of(_) = quality else {
+    let Some(_) = quality else {
         return true;
     };
     state.buffs.veneration == 0
@@ -58,11 +57,16 @@ fn may_follow(state: CraftState, n: u8) -> bool
 }
 
 // No finish while quality is below a part of its target, and no pure progress under innovation that does not finish.
-fn may_progress(context: CraftContext, state: CraftState, progress: Amount, quality: Amount) -> bool
+fn may_progress(
+    context: CraftContext,
+    state: CraftState,
+    progress: Option<u32>,
+    quality: Option<u32>,
+) -> bool
     requires { Progressing context state progress }
     ensures { result ≡ may_progress context state progress quality }
 {
-    let Amount::Of(efficiency) = progress else {
+    let Some(efficiency) = progress else {
         return true;
     };
     let gain = action::calc_progress_increase(
@@ -74,12 +78,13 @@ fn may_progress(context: CraftContext, state: CraftState, progress: Amount, qual
     if state.progress + gain >= context.progress_target {
         return state.quality >= context.quality_target / QUALITY_PART;
     }
-    let Amount::Nothing = quality else {
+    let None = quality else {
         return true;
     };
     state.buffs.innovation == 0
 }
 
+#[tactic(auto, unfolding(crate::specs::Moves::strictly_of))]
 pub fn strictly(context: CraftContext, state: CraftState, n: u8, row: Attributes) -> bool
     requires { CraftIn context state × RowBounds n row }
     ensures { result ≡ strictly_of context state n row }

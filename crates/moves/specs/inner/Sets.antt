@@ -1,13 +1,11 @@
 -- For the contracts of inner functions: the moves by sets, where each rule takes its actions off a set unless it holds.
 -- Assumes nothing.
-use Rattle.std.specs.Prelude.{Bool, cond, not, ◌&&◌, ◌||◌, ℕ, ◌+◌, eqb, leb}
+use Rattle.std.specs.Prelude.{Bool, cond, not, ◌&&◌, ◌||◌, ℕ, ◌+◌, eqb, leb, Option, Some, None}
 use Rattle.laws.specs.Bits.{has}
 use Rattle.action.specs.Actions as A
 use Rattle.action.specs.Amount.{present}
 use Rattle.action.specs.Gain.{progress_gain_of}
 use Rattle.action.specs.Table.{attributes_of}
-use Rattle.action.specs.declared.table.Amount.{Amount}
-use Rattle.action.specs.declared.table.Amount.TheVariants.{Of, Nothing}
 use Rattle.action.specs.declared.table.Attributes.{Attributes}
 use Rattle.action_set.specs.Sets.{set_of, keep_of}
 use Rattle.craft_context.specs.declared.context.CraftContext.{CraftContext}
@@ -26,9 +24,9 @@ kind_rule c s n row =
     && after_observe s n
 
 -- so much of an attribute; none counts 0
-abbrev pub amount_of : Amount → ℕ
-amount_of (Of amount) = amount
-amount_of Nothing = 0
+abbrev pub amount_of : Option ℕ → ℕ
+amount_of (Some amount) = amount
+amount_of None = 0
 
 -- with that efficiency progress reaches its target
 abbrev pub finishes_with : CraftContext → CraftState → ℕ → Bool

@@ -1,6 +1,6 @@
 -- Laws of what the amounts of a row decide: the price, and in strict mode what progress comes to. Over any table of rows inside the bounds.
 -- Assumes nothing.
-use Rattle.std.specs.Prelude.{◌≡◌, refl, Bool, false, ◌&&◌, ◌||◌, ℕ, ◌/◌, ◌≤◌, ◌<◌, eqb, leb}
+use Rattle.std.specs.Prelude.{◌≡◌, refl, Bool, false, ◌&&◌, ◌||◌, ℕ, ◌/◌, ◌≤◌, ◌<◌, eqb, leb, Option, Some, None}
 use Rattle.std.proofs.Common.{sym, ◌∙◌, zero-le, le_trans, le-leb}
 use Rattle.std.proofs.Math.Path.{ap}
 use Rattle.std.proofs.Math.Bool.{true, not}
@@ -11,8 +11,6 @@ use Rattle.action.specs.Known.{actions}
 use Rattle.action.specs.Amount.{present, AtMost}
 use Rattle.action.specs.Price.{affordable}
 use Rattle.action.specs.Bounds.{Rows, RowsIn}
-use Rattle.action.specs.declared.table.Amount.{Amount}
-use Rattle.action.specs.declared.table.Amount.TheVariants.{Of, Nothing}
 use Rattle.action_set.specs.Sets.{SetIn, set_of, keep_of}
 use Rattle.craft_context.specs.declared.context.CraftContext.{CraftContext}
 use Rattle.craft_state.specs.declared.state.CraftState.{CraftState}
@@ -22,14 +20,14 @@ use Rattle.moves.specs.laws.Sets.{works, only_works}
 
 -- ---- the price
 
-pub amount_at_most : {most : ℕ} (a : Amount) → AtMost most a → amount_of a ≤ most
-amount_at_most (Of amount) h = h
-amount_at_most Nothing h = zero-le
+pub amount_at_most : {most : ℕ} (a : Option ℕ) → AtMost most a → amount_of a ≤ most
+amount_at_most (Some amount) h = h
+amount_at_most None h = zero-le
 
 -- none is 0, for which any points are enough
-pub affordable_by : (points : ℕ) (price : Amount) → leb (amount_of price) points ≡ affordable points price
-affordable_by points (Of price) = refl
-affordable_by points Nothing = le-leb 0 points zero-le
+pub affordable_by : (points : ℕ) (price : Option ℕ) → leb (amount_of price) points ≡ affordable points price
+affordable_by points (Some price) = refl
+affordable_by points None = le-leb 0 points zero-le
 
 -- no price is above the most, and points for that are enough for all
 pub payable_all : (rows : Rows) {most : ℕ} → ((n : ℕ) → n < actions → AtMost most (rows n).cp_cost) → (points : ℕ) → most ≤ points
@@ -57,15 +55,15 @@ module _ (c : CraftContext) (s : CraftState) (rows : Rows) (bounded : RowsIn row
   outside = eqb s.buffs.innovation 0
 
   -- by the row: those that finish have enough quality, pure progress that does not is outside innovation
-  progress_by_lem : (finishes : Bool) (progress quality : Amount) → finishes ≡ present progress && finishes_with c s (amount_of progress)
+  progress_by_lem : (finishes : Bool) (progress quality : Option ℕ) → finishes ≡ present progress && finishes_with c s (amount_of progress)
       → (not finishes || enough) && (not ((present progress && not (present quality)) && (not finishes || false)) || outside)
       ≡ may_progress c s progress quality
-  progress_by_lem true (Of p) (Of q) e = rw (← e) (and_true enough)
-  progress_by_lem true (Of p) Nothing e = rw (← e) (and_true enough)
-  progress_by_lem false (Of p) (Of q) e = rw (← e)
-  progress_by_lem false (Of p) Nothing e = rw (← e)
-  progress_by_lem true Nothing q e = absurd (true_false e)
-  progress_by_lem false Nothing q e = refl
+  progress_by_lem true (Some p) (Some q) e = rw (← e) (and_true enough)
+  progress_by_lem true (Some p) None e = rw (← e) (and_true enough)
+  progress_by_lem false (Some p) (Some q) e = rw (← e)
+  progress_by_lem false (Some p) None e = rw (← e)
+  progress_by_lem true None q e = absurd (true_false e)
+  progress_by_lem false None q e = refl
 
   module _ (set : ℕ) where
     -- pure progress that does not finish

@@ -1,6 +1,6 @@
 -- The moves by sets are those of the walk over candidates: each rule is asked for once, in whatever order. Over any table of rows inside the bounds.
 -- Assumes nothing.
-use Rattle.std.specs.Prelude.{◌≡◌, refl, true, false, cond, not, ◌&&◌, ◌||◌, eqb, ltb}
+use Rattle.std.specs.Prelude.{◌≡◌, refl, true, false, cond, not, ◌&&◌, ◌||◌, eqb, ltb, Option, Some, None}
 use Rattle.std.proofs.Common.{sym, ◌∙◌, eqb-true}
 use Rattle.std.proofs.Math.Path.{ap}
 use Rattle.std.proofs.Math.Bool.{Bool}
@@ -12,8 +12,6 @@ use Rattle.action.specs.Actions as A
 use Rattle.action.specs.Known.{actions}
 use Rattle.action.specs.Amount.{present}
 use Rattle.action.specs.Bounds.{Rows, RowsIn}
-use Rattle.action.specs.declared.table.Amount.{Amount}
-use Rattle.action.specs.declared.table.Amount.TheVariants.{Of, Nothing}
 use Rattle.action.specs.declared.table.Attributes.{Attributes}
 use Rattle.action_set.specs.Sets.{set_of, keep_of}
 use Rattle.craft_context.specs.declared.context.CraftContext.{CraftContext}
@@ -76,9 +74,9 @@ module _ (c : CraftContext) (s : CraftState) where
     abbrev pays : ℕ → Bool
     pays n = affords s n (rows n).cp_cost
 
-    improve_by : (quality : Amount) → not (present quality) || ltb s.quality c.quality_target ≡ may_improve c s quality
-    improve_by (Of q) = refl
-    improve_by Nothing = refl
+    improve_by : (quality : Option ℕ) → not (present quality) || ltb s.quality c.quality_target ≡ may_improve c s quality
+    improve_by (Some q) = refl
+    improve_by None = refl
 
     -- what either mode leaves of the pool: what quality allows, and of that what the own rules do
     abbrev pub either_of : ℕ

@@ -1,6 +1,6 @@
 -- Laws of the moves: which candidates are among them, what that gives to the step, and that strict moves are a part of the plain ones.
 -- Assumes nothing.
-use Rattle.std.specs.Prelude.{◌≡◌, refl, ◌&&◌, ℕ, ◌+◌, ◌≤◌, ◌<◌, eqb, leb, pos}
+use Rattle.std.specs.Prelude.{◌≡◌, refl, ◌&&◌, ℕ, ◌+◌, ◌≤◌, ◌<◌, eqb, leb, pos, Option, Some, None}
 use Rattle.std.proofs.Common.{sym, ◌∙◌, subst, zero-le, le_trans, lt_of_lt_of_le, lt_of_not-le, leb-true, leb-false, ltb-true, eqb-true, pow_mono}
 use Rattle.std.proofs.Math.Bool.{Bool, true, false, cond, not}
 use Rattle.std.proofs.lemmas.Bool.{not-true}
@@ -15,8 +15,6 @@ use Rattle.action.specs.Known.{actions}
 use Rattle.action.specs.Bounds.{RowBounds, Rows, RowsIn}
 use Rattle.action.specs.laws.Bounds.{price_at_most}
 use Rattle.action.specs.Price.{charge_of}
-use Rattle.action.specs.declared.table.Amount.{Amount}
-use Rattle.action.specs.declared.table.Amount.TheVariants.{Of, Nothing}
 use Rattle.action.specs.declared.table.Attributes.{Attributes}
 use Rattle.action_set.specs.Sets.{SetIn, keep_of}
 use Rattle.action_set.specs.laws.Sets.{set_inside}
@@ -102,14 +100,14 @@ affords_payable : (s : CraftState) (n : ℕ) (row : Attributes) → RowBounds n 
     → Payable s.cp s.previous_combo_action n row.cp_cost
 affords_payable s n row bounds = by row.cp_cost refl
   where
-    by : (cost : Amount) → row.cp_cost ≡ cost → affords s n cost ≡ true → Payable s.cp s.previous_combo_action n cost
-    by (Of cost) e t = le_trans (price_at_most bounds e s.previous_combo_action) (leb-true cost s.cp t)
-    by Nothing e t = zero-le
+    by : (cost : Option ℕ) → row.cp_cost ≡ cost → affords s n cost ≡ true → Payable s.cp s.previous_combo_action n cost
+    by (Some cost) e t = le_trans (price_at_most bounds e s.previous_combo_action) (leb-true cost s.cp t)
+    by None e t = zero-le
 
-improve_where : (c : CraftContext) (s : CraftState) (quality : Amount) → may_improve c s quality ≡ true
+improve_where : (c : CraftContext) (s : CraftState) (quality : Option ℕ) → may_improve c s quality ≡ true
     → Where quality (s.quality < c.quality_target)
-improve_where c s (Of efficiency) t = ltb-true s.quality c.quality_target t
-improve_where c s Nothing t = tt
+improve_where c s (Some efficiency) t = ltb-true s.quality c.quality_target t
+improve_where c s None t = tt
 
 -- a state that has not ended
 pub record Going (c : CraftContext) (s : CraftState) : Type 0 where

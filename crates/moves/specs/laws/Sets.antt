@@ -1,7 +1,7 @@
 -- Laws of the rules that are read from a state alone, each over the set of its actions: an action's own rule, what strict mode asks beyond it, and
 -- the rules by which attributes a candidate has. Over any table of rows inside the bounds.
 -- Assumes nothing.
-use Rattle.std.specs.Prelude.{◌≡◌, Bool, true, false, cond, not, ◌&&◌, ◌||◌, List, [], ◌∷◌, ℕ, ◌/◌, ◌<◌, eqb, leb, ltb, pos, ◌-ℤ◌}
+use Rattle.std.specs.Prelude.{◌≡◌, Bool, true, false, cond, not, ◌&&◌, ◌||◌, List, [], ◌∷◌, ℕ, ◌/◌, ◌<◌, eqb, leb, ltb, pos, ◌-ℤ◌, Option, Some, None}
 use Rattle.std.proofs.Math.Path.{refl}
 use Rattle.std.proofs.Common.{sym, ap, ◌∙◌, eqb-true}
 use Rattle.std.specs.Int.Signed.{le_z, lt_z}
@@ -13,8 +13,6 @@ use Rattle.action.specs.Limits.{quiet_most}
 use Rattle.action.specs.Amount.{present}
 use Rattle.action.specs.Table.{attributes_of}
 use Rattle.action.specs.Bounds.{Rows, RowsIn}
-use Rattle.action.specs.declared.table.Amount.{Amount}
-use Rattle.action.specs.declared.table.Amount.TheVariants.{Of, Nothing}
 use Rattle.action_set.specs.Sets.{SetIn, keep_of}
 use Rattle.craft_context.specs.declared.context.CraftContext.{CraftContext}
 use Rattle.craft_state.specs.declared.state.CraftState.{CraftState}
@@ -110,18 +108,18 @@ module _ (c : CraftContext) (s : CraftState) where
       ∷ rule (λ n. not (eqb n A.AdvancedTouch)) (not (on_observe s.previous_combo_action))
       ∷ []
 
-  memory_by : (quality : Amount)
+  memory_by : (quality : Option ℕ)
       → not (present quality) || not (eqb c.recipe_job_level c.player_job_level && ltb 0 s.buffs.muscle_memory)
       ≡ outside_memory c s quality
-  memory_by (Of q) = refl
-  memory_by Nothing = refl
+  memory_by (Some q) = refl
+  memory_by None = refl
 
-  veneration_by : (progress quality : Amount)
+  veneration_by : (progress quality : Option ℕ)
       → not (present quality && not (present progress)) || eqb s.buffs.veneration 0 ≡ outside_veneration s progress quality
-  veneration_by (Of p) (Of q) = refl
-  veneration_by (Of p) Nothing = refl
-  veneration_by Nothing (Of q) = refl
-  veneration_by Nothing Nothing = refl
+  veneration_by (Some p) (Some q) = refl
+  veneration_by (Some p) None = refl
+  veneration_by None (Some q) = refl
+  veneration_by None None = refl
 
   follow_by : (one follows : Bool) → not (not one) || follows ≡ follows || one
   follow_by true follows = sym (or_true follows)
