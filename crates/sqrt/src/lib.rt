@@ -1,10 +1,11 @@
 // The square root of an f32, rounded to the nearest value. Floats guess the digits of a root, and whole numbers test the guess: so no answer
-// turns on a guess, and a wrong one costs time alone, that of Newton's iteration.
+// turns on a guess, and a wrong one costs time alone, that of `isqrt`. These are steps of our own, and not std's `f32::sqrt`, since the must-fail
+// edits half_rounds_up and next_guess_let_in are wrong steps.
 
 #![tactic(auto)]
 
 ghost use Rattle.std.specs.Prelude.{◌≡◌, ◌*◌, ◌<◌, ◌≤◌};
-ghost use Rattle.sqrt.specs.Sqrt.{digits_end, square_end, infinity_bits, root_down, root_near, shift_by, root_of, root_bits, sqrt_of};
+ghost use Rattle.sqrt.specs.Sqrt.{digits_end, square_end, infinity_bits, root_near, shift_by, root_of, root_bits, sqrt_of};
 ghost use Rattle.sqrt.specs.inner.Digits.{Digits};
 
 // 2^23: what an exponent counts by in a bit pattern. It is the first pattern of a normal value, and the digit that such a pattern leaves out.
@@ -12,8 +13,6 @@ const HIDDEN: u32 = 0x80_0000;
 
 // The zeros before the 24 digits of a normal value, in 32 bits.
 const NORMAL_ZEROS: u32 = 8;
-
-const INFINITY: u32 = 0x7f80_0000;
 
 // 2^24: above each number of 24 digits.
 const DIGITS_END: u64 = 0x100_0000;
@@ -27,24 +26,12 @@ const HALF_WAY: u32 = 0x1fbb_67ae;
 // 2^66: above twice the root of each f32.
 const BEYOND_ROOTS: f64 = 73786976294838206464.0;
 
-// The largest r with r * r <= n, by Newton's iteration from above.
-fn root_down(n: u64) -> u64
-    requires { n < square_end }
-    ensures { (result ≡ root_down 24 n) × (result * result ≤ n) × (result < digits_end) }
-{
-    let mut r: u64 = DIGITS_END;
-    while n < r * r {
-        r = (r + n / r) / 2;
-    }
-    r
-}
-
 // The whole number nearest to the root of n.
 fn root_worked(n: u64) -> u64
     requires { n < square_end }
     ensures { (result ≡ root_near n) × (result ≤ digits_end) }
 {
-    let r = root_down(n);
+    let r = n.isqrt();
     if r < n - r * r { r + 1 } else { r }
 }
 
@@ -54,10 +41,8 @@ fn root_near(n: u64, guess: u64) -> u64
     ensures { (result ≡ root_near n) × (result ≤ digits_end) }
 {
     let square = guess * guess;
-    if square < n + guess {
-        if n <= square + guess {
-            return guess;
-        }
+    if square < n + guess && n <= square + guess {
+        return guess;
     }
     root_worked(n)
 }
@@ -75,8 +60,7 @@ fn guess_of(b: u32) -> u64
     // twice the root has its digits: of the 52 behind the first the upper 23, rounded
     let twice = near + x / near;
     if twice < BEYOND_ROOTS {
-        let bits: u64 = f64::to_bits(twice);
-        return DIGITS_END / 2 + ((bits >> 28) + 1) / 2 % (DIGITS_END / 2);
+        return DIGITS_END / 2 + ((twice.to_bits() >> 28) + 1) / 2 % (DIGITS_END / 2);
     }
     0
 }
@@ -105,7 +89,7 @@ fn root_bits(b: u32) -> u32
     ensures { (result ≡ root_bits b) × (result < infinity_bits) }
 {
     if b < HIDDEN {
-        return root_of(b, 0, u32::leading_zeros(b), 0);
+        return root_of(b, 0, b.leading_zeros(), 0);
     }
     root_of(
         HIDDEN + b % HIDDEN,
@@ -119,14 +103,9 @@ fn root_bits(b: u32) -> u32
 pub fn sqrt(x: f32) -> f32
     ensures { result ≡ sqrt_of x }
 {
-    if 0.0 < x {
-        if x < f32::from_bits(INFINITY) {
-            return f32::from_bits(root_bits(f32::to_bits(x)));
-        }
-        return x;
+    if 0.0 < x && x < f32::INFINITY {
+        return f32::from_bits(root_bits(x.to_bits()));
     }
-    if x == 0.0 {
-        return x;
-    }
-    0.0 / 0.0
+    // both zeros and the infinity
+    if 0.0 <= x { x } else { f32::NAN }
 }

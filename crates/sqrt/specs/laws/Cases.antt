@@ -1,12 +1,13 @@
 -- `sqrt_of` by the tests that the code makes: 0 < x, x < ∞, x = 0.
 -- Assumes nothing.
-use Rattle.std.specs.Prelude.{◌≡◌, refl, ℕ, zero, suc, ◌*◌, ◌<◌, Bool, true, false, not, ◌||◌, ℤ, T, ltb, eqb, Float}
-use Rattle.std.proofs.Common.{zero-lt-suc, mul-pos, arith, ltb→lt, lt→ltb, eqb→eq, T_not}
+use Rattle.std.specs.Prelude.{◌≡◌, refl, ℕ, zero, suc, ◌*◌, ◌<◌, Bool, true, false, not, ◌||◌, ◌⊎◌, ℤ, T, ltb, eqb, Float}
+use Rattle.std.proofs.Common.{zero-lt-suc, mul-pos, arith, ltb→lt, lt→ltb, eqb→eq, T_not, inl, inr}
 use Rattle.std.specs.Bool.{beq}
 use Rattle.std.specs.Float.{nan, inf, fin, binary32}
-use Rattle.std.specs.Float.Ieee.{up, down, of_bits, to_bits, lt, eq, is_nan, div}
+use Rattle.std.specs.Float.Ieee.{up, down, of_bits, to_bits, lt, eq, le, is_nan, div}
 use Rattle.std.specs.Float.Ieee.Fits.{and_l, and_i, eq→eqb, up_pos}
 use Rattle.std.specs.Float.Ieee.Positive.{positive, above}
+use Rattle.laws.specs.laws.Tests.{or_left, or_right}
 use Rattle.sqrt.specs.Sqrt.{infinity_bits, root_bits, sqrt_of}
 
 -- the two float numbers of the source, by their bit patterns
@@ -102,3 +103,39 @@ at_other (inf false) h k = absurd h
 at_other (fin s zero e) h k = absurd (T_not (eq (fin s zero e) nought) k (is_zero s e))
 at_other (fin true (suc m) e) h k = refl
 at_other (fin false (suc m) e) h k = absurd (T_not (ltb (0 * 1 * down e) (suc m * up e * 1)) h (lt→ltb _ _ (more m e)))
+
+-- ---- by the test 0 ≤ x, where 0 < x < ∞ does not hold
+
+zero_level : (s : Bool) (e : ℤ) → T (le nought (fin s zero e))
+unfolding of_bits le lt eq
+zero_level s e =
+    let q : 0 * 1 * down e ≡ 0 * up e * 1 = omega arith in
+    let z : 0 * 1 * down e ≡ 0 = omega arith in
+    or_right (lt nought (fin s zero e)) _ (and_i (eqb (0 * 1 * down e) (0 * up e * 1)) _ (eq→eqb q) (go (eqb (0 * 1 * down e) 0) (eq→eqb z) s))
+  where
+    go : (b : Bool) → T b → (s : Bool) → T (beq false s || b)
+    go b t true = t
+    go b t false = tt
+
+pub at_end : (x : Float) → T (le nought x) → T (not (lt nought x)) ⊎ T (not (lt x endless)) → x ≡ sqrt_of x
+unfolding sqrt_of of_bits lt eq le
+at_end nan h k = absurd h
+at_end (inf true) h k = absurd h
+at_end (inf false) h k = refl
+at_end (fin s zero e) h k = refl
+at_end (fin true (suc m) e) h k =
+    let q : 0 * 1 * down e ≡ suc m * up e * 1 = eqb→eq (0 * 1 * down e) (suc m * up e * 1) (and_l (eqb (0 * 1 * down e) (suc m * up e * 1)) _ h) in
+    let l = more m e in
+    absurd {A = fin true (suc m) e ≡ sqrt_of (fin true (suc m) e)} (omega arith)
+at_end (fin false (suc m) e) h (inl k) = absurd (T_not (ltb (0 * 1 * down e) (suc m * up e * 1)) k (lt→ltb _ _ (more m e)))
+at_end (fin false (suc m) e) h (inr k) = absurd k
+
+pub at_none : (x : Float) → T (not (le nought x)) → nan ≡ sqrt_of x
+unfolding sqrt_of of_bits lt eq le
+at_none nan h = refl
+at_none (inf true) h = refl
+at_none (inf false) h = absurd h
+at_none (fin s zero e) h = absurd (T_not (le nought (fin s zero e)) h (zero_level s e))
+at_none (fin true (suc m) e) h = refl
+at_none (fin false (suc m) e) h =
+    absurd (T_not (le nought (fin false (suc m) e)) h (or_left (ltb (0 * 1 * down e) (suc m * up e * 1)) _ (lt→ltb _ _ (more m e))))
