@@ -1,33 +1,19 @@
 -- E10: a score is below 1, and in time at least -1, of a single state and of what a craft came to: what rests on the numbers that the bonuses come to.
 -- Assumes nothing.
-use Rattle.std.specs.Prelude.{◌≡◌, ℕ, ◌+◌, ◌<◌, ◌≤◌, Bool, true, false, cond, T, pos, negsuc, ◌==◌, int_le, nat_le, refl, Float}
-use Rattle.std.proofs.Common.{arith, lit≤, ne_eqb}
-use Rattle.std.specs.Float.{inf, binary32}
-use Rattle.std.specs.Float.Ieee.{of_int, to_bits, neg, add, sub, mul, div, lt, le}
-use Rattle.std.specs.Float.Ieee.Scale.{finite}
-use Rattle.laws.specs.Bits.{has}
+use Rattle.std.specs.Prelude.{ℕ, ◌<◌, ◌≤◌, Bool, true, false, cond, T, pos, ◌==◌, int_le, nat_le}
+use Rattle.std.proofs.Common.{arith, ne_eqb}
+use Rattle.std.specs.Float.Ieee.{of_int, neg, lt, le}
 use Rattle.laws.specs.Floats.{hundredths, one, minus_one}
 use Rattle.laws.specs.laws.Order.{le_through, lt_after}
-use Rattle.laws.proofs.Within.{low_finite, high_finite, within_finite}
-use Rattle.action.specs.Actions as A
-use Rattle.action.specs.Bounds.{Rows, RowsIn}
+use Rattle.laws.proofs.Within.{low_finite, within_finite}
 use Rattle.craft_context.specs.declared.context.CraftContext.{CraftContext}
-use Rattle.craft_context.specs.Limits.{ContextIn}
 use Rattle.craft_state.specs.declared.state.CraftState.{CraftState}
 use Rattle.craft_state.specs.Limits.{step_most}
-use Rattle.craft_state.specs.Inside.{CraftIn}
-use Rattle.craft_state.specs.laws.Inside.{start_in}
-use Rattle.craft_state.specs.Start.{start_of}
-use Rattle.step.specs.Step.{execute_by}
-use Rattle.step.specs.laws.Step.{execute_step}
-use Rattle.moves.specs.declared.mode.Mode.{Mode}
-use Rattle.moves.specs.Moves.{moves_by}
-use Rattle.moves.specs.laws.Moves.{legal_known, legal_playable, legal_keeps}
-use Rattle.score.specs.Score.{weigh, score_of}
+use Rattle.score.specs.Score.{score_of}
 use Rattle.score.specs.Result.{judged_by}
-use Rattle.score.specs.Bounds.{full_steps, greatest_score, ScoreBounds, ScoreIsBounded}
+use Rattle.score.specs.Bounds.{greatest_score, ScoreBounds, ScoreIsBounded}
 use Rattle.score.specs.declared.result.CraftResult.TheVariants as R
-use Rattle.score.specs.laws.Score.{least_four, least_steps, of_either, steps_within, weighed_within, score_finite, by_steps, Scorable, scorable}
+use Rattle.score.specs.laws.Score.{weighed_within, score_finite, by_steps, Scorable, scorable}
 use Rattle.score.specs.laws.Bounds.{greatest_finite, greatest_below_one, inf_below_one, score_most, score_from, floor_one, floor_three_quarters, floor_weighed, Timely}
 
 module _ (context : CraftContext) (state : CraftState) (given : Scorable context state) (top : context.step_max ≤ step_most) where

@@ -4,7 +4,6 @@
 
 mod result;
 mod scoring;
-mod single;
 
 pub use result::{CraftResult, check_result, judge};
-pub use single::{judge_single, score_single};
+pub use scoring::score;

@@ -4,12 +4,11 @@ ghost use Rattle.craft_state.specs.Inside.{CraftIn};
 ghost use Rattle.score.specs.Result.{judged_by, result_of, ScoreIsNumber};
 
 use super::scoring::score;
-use super::single::judge_single;
 use craft_context::CraftContext;
 use craft_state::CraftState;
 use moves::Mode;
 
-#[derive(Clone, Copy)]
+#[derive(Clone, Copy, Debug, PartialEq)]
 pub enum CraftResult {
     // Progress is at its target: the score.
     Finished(f32),
@@ -20,7 +19,9 @@ pub enum CraftResult {
     Continuing,
 }
 
-// By the state's legal moves. For the loop of replay alone, as `step::execute`.
+// By the state's legal moves. One piece with each caller, as `step::execute`.
+#[inline(always)]
+#[tactic(auto, using(craft_state::specs::laws::Inside::durability_read), unfolding(crate::specs::Result::judged_by))]
 pub fn judge(context: CraftContext, state: CraftState, moves: u32) -> CraftResult
     requires { CraftIn context state }
     ensures { (result ≡ judged_by context state moves) × ScoreIsNumber result }
@@ -47,5 +48,5 @@ pub fn check_result(context: CraftContext, state: CraftState, mode: Mode) -> Cra
     requires { CraftIn context state }
     ensures { (result ≡ result_of context state mode) × ScoreIsNumber result }
 {
-    judge_single(context, state, moves::legal_moves(context, state, mode))
+    judge(context, state, moves::legal_moves(context, state, mode))
 }

@@ -20,6 +20,7 @@ const CP_BONUS: f32 = 0.05;
 const FEWER_STEPS_BONUS: f32 = 0.05;
 
 // Rust's 1f32.min(quotient), which is 1 at a NaN: 0 / 0 counts as full.
+#[tactic(auto, using(laws::specs::laws::Floats::one_bits))]
 fn capped(quotient: f32) -> f32
     ensures { result ≡ capped_of quotient }
 {
@@ -47,14 +48,15 @@ fn whole_part(bonus: f32, value: u32, target: u32) -> f32
 }
 
 // The share of the steps that is left: minus infinity where step_max is 0, since a step is at least 1.
-pub fn fewer_steps(step: u8, step_max: u8) -> f32
+#[tactic(auto, using(laws::specs::laws::Floats::one_bits))]
+fn fewer_steps(step: u8, step_max: u8) -> f32
     ensures { result ≡ fewer_of step step_max }
 {
     1.0 - step as f32 / step_max as f32
 }
 
 // Each sum is rounded, so the parts are added from left to right.
-pub fn weighed(context: CraftContext, state: CraftState) -> f32
+fn weighed(context: CraftContext, state: CraftState) -> f32
     ensures { result ≡ weighed_of context state }
 {
     let progress = whole_part(PROGRESS_BONUS, state.progress, context.progress_target);
@@ -69,7 +71,8 @@ pub fn weighed(context: CraftContext, state: CraftState) -> f32
     progress + quality + durability + cp + fewer
 }
 
-// Without a quality target the steps alone count. For the loop of replay alone, as `step::execute`.
+// Without a quality target the steps alone count.
+#[inline(always)]
 pub fn score(context: CraftContext, state: CraftState) -> f32
     requires { CraftIn context state }
     ensures { (result ≡ score_of context state) × T (not (is_nan result)) }

@@ -1,14 +1,14 @@
 -- E10: a score is below 1, and in time at least -1, since each part is at most its bonus, and what the parts add up to at their bounds is worked out
 -- once. And each legal action leaves a state in time.
 -- Assumes nothing.
-use Rattle.std.specs.Prelude.{◌≡◌, ℕ, ◌+◌, ◌<◌, ◌≤◌, Bool, true, false, cond, T, pos, negsuc, ◌==◌, int_le, nat_le, refl, Float}
-use Rattle.std.proofs.Common.{arith, lit≤, ne_eqb}
+use Rattle.std.specs.Prelude.{◌≡◌, ℕ, ◌+◌, ◌<◌, ◌≤◌, Bool, true, false, cond, T, negsuc, ◌==◌, refl, Float}
+use Rattle.std.proofs.Common.{arith, lit≤}
 use Rattle.std.specs.Float.{inf, binary32}
 use Rattle.std.specs.Float.Ieee.{of_int, to_bits, neg, add, sub, mul, div, lt, le}
 use Rattle.std.specs.Float.Ieee.Scale.{finite}
 use Rattle.laws.specs.Bits.{has}
 use Rattle.laws.specs.Floats.{hundredths, one, minus_one}
-use Rattle.laws.specs.laws.Order.{le_through, lt_after}
+use Rattle.laws.specs.laws.Order.{le_through}
 use Rattle.laws.proofs.Within.{low_finite, high_finite, within_finite}
 use Rattle.action.specs.Actions as A
 use Rattle.action.specs.Bounds.{Rows, RowsIn}
@@ -25,10 +25,8 @@ use Rattle.moves.specs.declared.mode.Mode.{Mode}
 use Rattle.moves.specs.Moves.{moves_by}
 use Rattle.moves.specs.laws.Moves.{legal_known, legal_playable, legal_keeps}
 use Rattle.score.specs.Score.{weigh, score_of}
-use Rattle.score.specs.Result.{judged_by}
-use Rattle.score.specs.Bounds.{full_steps, greatest_score, ScoreBounds, ScoreIsBounded}
-use Rattle.score.specs.declared.result.CraftResult.TheVariants as R
-use Rattle.score.specs.laws.Score.{least_four, least_steps, of_either, steps_within, weighed_within, score_finite, by_steps, Scorable, scorable}
+use Rattle.score.specs.Bounds.{full_steps, greatest_score}
+use Rattle.score.specs.laws.Score.{least_four, least_steps, of_either, steps_within, weighed_within, by_steps, Scorable}
 
 -- ---- the bounds, worked out
 

@@ -1,13 +1,11 @@
 -- Scores worked out from the definitions: the bits are those of document 01, or those that the Rust of craft_state.rs answers.
 -- Assumes nothing.
-use Rattle.std.specs.Prelude.{◌≡◌, ℕ, false, ℤ, pos, negsuc, refl}
+use Rattle.std.specs.Prelude.{◌≡◌, ℕ, false, ℤ, pos, negsuc, refl, None}
 use Rattle.std.specs.Float.{binary32}
 use Rattle.std.specs.Float.Ieee.{to_bits, of_int, add, sub, mul, div, lt}
-use Rattle.action.specs.declared.price.Combo.TheVariants as C
 use Rattle.craft_context.specs.declared.context.CraftContext.{CraftContext}
 use Rattle.laws.specs.Floats.{float}
 use Rattle.craft_state.specs.declared.state.CraftState.{CraftState}
-use Rattle.craft_state.specs.declared.state.Last.TheVariants as L
 use Rattle.craft_state.specs.declared.state.Perfection.TheVariants as P
 use Rattle.craft_state.specs.Start.{no_buffs}
 use Rattle.score.specs.Score.{cp_bonus, part_of, weighed_of, score_of}
@@ -40,11 +38,11 @@ state step progress quality durability points =
       quality = quality;
       durability = durability;
       cp = points;
-      previous_combo_action = C.Nothing;
+      previous_combo_action = None;
       quick_innovation_available = false;
       trained_perfection_active = P.Unused;
       buffs = no_buffs;
-      action = L.Nothing;
+      action = None;
     }
 
 -- P9: cp 0 of 0
