@@ -3,7 +3,7 @@
 use Rattle.std.specs.Prelude.{◌≡◌, refl, false, cond, ◌&&◌, List, [], ◌∷◌, ℕ, suc, ◌+◌, ◌-◌, ◌≤◌, ◌<◌, length, map, take, drop, get_or, Option, Some, None, Result, Ok, Err, ok_or}
 use Rattle.std.proofs.Common.{sym, ap, ◌∙◌, add-zero, zero-add, arith, drop_of_length-le, length-drop, drop-drop, get_or-drop}
 use Rattle.laws.specs.Lists.{front}
-use Rattle.laws.specs.laws.Front.{front_le, front_after}
+use Rattle.laws.specs.laws.Front.{front_after}
 use Rattle.action.specs.Names.{found_of, is_found}
 use Rattle.rotation.specs.Gaps.{gap, letter}
 use Rattle.rotation.specs.Words.{Word, words_of, found_then, numbers, all_found, first_unknown, actions_in, words_known, unknown_at}
@@ -31,9 +31,6 @@ module _ (text : List ℕ) {at : ℕ} (h : at ≤ length text) {start : ℕ} (s 
         ∙ front_after gap (drop at text) (omega (arith, length-drop at text)))
 
     module _ {end : ℕ} (e : end ≡ start + front letter (drop start text)) where
-      pub end_within : end ≤ length text
-      end_within = omega (arith, front_le letter (drop start text), length-drop start text)
-
       pub a_word : words_at text at ≡ record { at = start; found = found_of (take (end - start) (drop start text)) } ∷ words_at text end
       a_word =
           let n : end - start ≡ front letter (drop start text) = omega arith in
