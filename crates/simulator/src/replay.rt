@@ -17,7 +17,7 @@ use moves::Mode;
 use score::CraftResult;
 
 // The state where a replay stopped, its moves, its result, and how many actions were executed.
-#[derive(Clone, Copy)]
+#[derive(Clone, Copy, Debug, PartialEq)]
 pub struct Replay {
     pub state: CraftState,
     pub moves: ActionSet,
@@ -41,12 +41,10 @@ fn settled(res: CraftResult, moves: u32) -> CraftResult
     requires { ScoreIsNumber res }
     ensures { (result ≡ settled_of res moves) × ScoreIsNumber result }
 {
-    if let CraftResult::Continuing = res {
-        if moves == 0 {
-            return CraftResult::InvalidActionFailure;
-        }
+    match res {
+        CraftResult::Continuing if moves == 0 => CraftResult::InvalidActionFailure,
+        _ => res,
     }
-    res
 }
 
 // One loop, broken with its result where it stops; the moves are worked out there alone.

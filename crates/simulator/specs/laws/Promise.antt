@@ -1,6 +1,6 @@
 -- Demand 3, shown of every replay. Of the table nothing is used but its bounds.
 -- Assumes nothing.
-use Rattle.std.specs.Prelude.{◌≡◌, Bool, not, eqb, ltb}
+use Rattle.std.specs.Prelude.{◌≡◌, Bool, not, eqb, ltb, None}
 use Rattle.std.proofs.Math.Path.{refl, sym, ap, subst}
 use Rattle.std.proofs.Common.{◌∙◌, le_of_eq, le_antisymm, le_of_suc-le-suc, not-suc-le-zero, lit≤, ltb-true, eqb-true}
 use Rattle.std.proofs.Math.Bool.{true, false, cond}
@@ -18,7 +18,6 @@ use Rattle.action.specs.Known.{actions, known_front}
 use Rattle.craft_context.specs.declared.context.CraftContext.{CraftContext}
 use Rattle.craft_context.specs.Limits.{ContextIn}
 use Rattle.craft_state.specs.declared.state.CraftState.{CraftState}
-use Rattle.craft_state.specs.declared.state.Last.TheVariants as L
 use Rattle.craft_state.specs.Limits.{step_least, step_most}
 use Rattle.craft_state.specs.Inside.{CraftIn}
 use Rattle.craft_state.specs.laws.Inside.{start_in}
@@ -195,7 +194,7 @@ module _ (rows : Rows) (bounded : RowsIn rows) (c : CraftContext) (mode : Mode) 
         let first = take k list in
         let start = start_in c inside in
         let g = along_inside (start_of c) first start (take_known list k known) l in
-        let prices = prices_charged rows c (start_of c) L.Nothing L.Nothing first refl in
+        let prices = prices_charged rows c (start_of c) None None first refl in
         record {
           legal = l;
           points = rw prices (along_points (start_of c) first start (take_known list k known) l);

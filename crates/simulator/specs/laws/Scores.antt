@@ -4,8 +4,7 @@ use Rattle.std.specs.Prelude.{◌≡◌, refl, Bool, true, false, cond, ℕ, ◌
 use mathlib.Core.List.{List, [], ◌∷◌}
 use Rattle.std.specs.Float.Ieee.{of_int, div, lt}
 use Rattle.laws.specs.Bits.{has}
-use Rattle.refusal.specs.Judge.{judged, checks_of}
-use Rattle.refusal.specs.declared.Checked.TheVariants.{Passed}
+use Rattle.refusal.specs.Judge.{pass, judged, checks_of}
 use Rattle.action.specs.Bounds.{Rows, RowsIn}
 use Rattle.craft_context.specs.declared.context.CraftContext.{CraftContext}
 use Rattle.craft_context.specs.Limits.{ContextIn, context_tests}
@@ -70,6 +69,6 @@ finished =
     }
 
 -- it is inside the limits, and its replay has that score
-pub greatest_reached : (checks_of (context_tests finished) ≡ Passed) × (scores_in (replay_of finished plain []).result ≡ greatest_score ∷ [])
+pub greatest_reached : (checks_of (context_tests finished) ≡ pass) × (scores_in (replay_of finished plain []).result ≡ greatest_score ∷ [])
 unfolding judged replay_by replay_from stop_by start_of judged_by score_of weighed_of of_int div lt
 greatest_reached = (refl, refl)
