@@ -1,21 +1,12 @@
 // A context from fifteen numbers, one for each field in their order.
 ghost use Rattle.std.specs.Prelude.{◌≡◌, ◌<◌, length, get_or};
-ghost use Rattle.refusal.specs.Judge.{checks_of, Says};
-ghost use Rattle.context_line.specs.Shape.{fields};
+ghost use Rattle.refusal.specs.Judge.{checks_of, Says, answering};
 ghost use Rattle.context_line.specs.Fields.{context_of, number_tests};
 ghost use Rattle.context_line.specs.inner.Fields.{listed, early_tests, late_tests, Fitting, word_of};
-ghost use Rattle.context_line.specs.Read.{read as Reads·read};
 
 use action_set::ActionSet;
-use craft_context::{CraftContext, place};
-use refusal::{Checked, Refusal};
-
-// A context, or a refusal.
-#[derive(Clone, Copy)]
-pub enum Read {
-    Context(CraftContext),
-    Refused(Refusal),
-}
+use craft_context::{CraftContext, place, within};
+use refusal::Refusal;
 
 pub const FIELDS: usize = 15;
 
@@ -48,58 +39,55 @@ const BYTE_MOST: u32 = 255;
 const FLAG_SET: u32 = 1;
 
 // Refusal 1 for the first field that does not take its number, with its place, of those before durability. A level takes any.
-fn check_early(numbers: Fields) -> Checked
+fn check_early(numbers: Fields) -> Result<(), Refusal>
     ensures { result ≡ checks_of (early_tests (listed numbers)) }
 {
-    if numbers.base_progress_factor > CraftContext::FACTOR_MOST {
-        return Checked::Refused(Refusal::OutsideLimits(place::BASE_PROGRESS_FACTOR));
-    }
-    if numbers.base_quality_factor > CraftContext::FACTOR_MOST {
-        return Checked::Refused(Refusal::OutsideLimits(place::BASE_QUALITY_FACTOR));
-    }
-    if numbers.step_max > BYTE_MOST {
-        return Checked::Refused(Refusal::OutsideLimits(place::STEP_MAX));
-    }
-    if numbers.progress_target > CraftContext::TARGET_MOST {
-        return Checked::Refused(Refusal::OutsideLimits(place::PROGRESS_TARGET));
-    }
-    if numbers.starting_quality > CraftContext::TARGET_MOST {
-        return Checked::Refused(Refusal::OutsideLimits(place::STARTING_QUALITY));
-    }
-    if numbers.quality_target > CraftContext::TARGET_MOST {
-        return Checked::Refused(Refusal::OutsideLimits(place::QUALITY_TARGET));
-    }
-    Checked::Passed
+    within(
+        numbers.base_progress_factor <= CraftContext::FACTOR_MOST,
+        place::BASE_PROGRESS_FACTOR,
+    )?;
+    within(
+        numbers.base_quality_factor <= CraftContext::FACTOR_MOST,
+        place::BASE_QUALITY_FACTOR,
+    )?;
+    within(numbers.step_max <= BYTE_MOST, place::STEP_MAX)?;
+    within(
+        numbers.progress_target <= CraftContext::TARGET_MOST,
+        place::PROGRESS_TARGET,
+    )?;
+    within(
+        numbers.starting_quality <= CraftContext::TARGET_MOST,
+        place::STARTING_QUALITY,
+    )?;
+    within(
+        numbers.quality_target <= CraftContext::TARGET_MOST,
+        place::QUALITY_TARGET,
+    )
 }
 
 // And of those from durability on.
-fn check_late(numbers: Fields) -> Checked
+fn check_late(numbers: Fields) -> Result<(), Refusal>
     ensures { result ≡ checks_of (late_tests (listed numbers)) }
 {
-    if !craft_context::lasts(numbers.durability_max) {
-        return Checked::Refused(Refusal::OutsideLimits(place::DURABILITY_MAX));
-    }
-    if numbers.cp_max > CraftContext::TARGET_MOST {
-        return Checked::Refused(Refusal::OutsideLimits(place::CP_MAX));
-    }
-    if numbers.is_expert > FLAG_SET {
-        return Checked::Refused(Refusal::OutsideLimits(place::IS_EXPERT));
-    }
-    if numbers.action_pool >= ActionSet::LIMIT {
-        return Checked::Refused(Refusal::OutsideLimits(place::ACTION_POOL));
-    }
-    if numbers.player_is_specialist > FLAG_SET {
-        return Checked::Refused(Refusal::OutsideLimits(place::PLAYER_IS_SPECIALIST));
-    }
-    if numbers.use_manipulation > FLAG_SET {
-        return Checked::Refused(Refusal::OutsideLimits(place::USE_MANIPULATION));
-    }
-    if numbers.use_delineation > FLAG_SET {
-        return Checked::Refused(Refusal::OutsideLimits(place::USE_DELINEATION));
-    }
-    Checked::Passed
+    within(
+        craft_context::lasts(numbers.durability_max),
+        place::DURABILITY_MAX,
+    )?;
+    within(numbers.cp_max <= CraftContext::TARGET_MOST, place::CP_MAX)?;
+    within(numbers.is_expert <= FLAG_SET, place::IS_EXPERT)?;
+    within(numbers.action_pool < ActionSet::LIMIT, place::ACTION_POOL)?;
+    within(
+        numbers.player_is_specialist <= FLAG_SET,
+        place::PLAYER_IS_SPECIALIST,
+    )?;
+    within(
+        numbers.use_manipulation <= FLAG_SET,
+        place::USE_MANIPULATION,
+    )?;
+    within(numbers.use_delineation <= FLAG_SET, place::USE_DELINEATION)
 }
 
+#[tactic(auto, unfolding(crate::specs::Fields::context_of))]
 fn context_of(numbers: Fields) -> CraftContext
     requires { Fitting numbers }
     ensures { result ≡ context_of (listed numbers) }
@@ -124,18 +112,12 @@ fn context_of(numbers: Fields) -> CraftContext
 }
 
 // The context of these numbers, or refusal 1 for the first field that does not take its number.
-pub fn from_fields(numbers: Fields) -> Read
-    ensures { Says Reads·read (number_tests (listed numbers)) (Read.Context (context_of (listed numbers))) result }
+pub fn from_fields(numbers: Fields) -> Result<CraftContext, Refusal>
+    ensures { Says answering (number_tests (listed numbers)) (Ok (context_of (listed numbers))) result }
 {
-    let early = check_early(numbers);
-    if let Checked::Refused(x) = early {
-        return Read::Refused(x);
-    }
-    let late = check_late(numbers);
-    if let Checked::Refused(x) = late {
-        return Read::Refused(x);
-    }
-    Read::Context(context_of(numbers))
+    check_early(numbers)?;
+    check_late(numbers)?;
+    Ok(context_of(numbers))
 }
 
 // The number in one place. The greatest u32 stands for every greater number: no field but a level takes it.
@@ -143,24 +125,21 @@ fn word(values: &[u64], k: usize) -> u32
     requires { k < length values.now }
     ensures { result ≡ word_of (get_or values.now k 0) }
 {
-    let n = values[k];
-    if n > WORD_MOST {
-        return WORD_MOST as u32;
-    }
-    n as u32
+    u32::try_from(values[k]).unwrap_or(u32::MAX)
 }
 
 // The same of any fifteen numbers in their order. The levels come first.
-pub fn from_numbers(values: &[u64]) -> Read
-    requires { length values.now ≡ fields }
-    ensures { Says Reads·read (number_tests values.now) (Read.Context (context_of values.now)) result }
+pub fn from_numbers(values: &[u64; FIELDS]) -> Result<CraftContext, Refusal>
+    ensures { Says answering (number_tests values.now) (Ok (context_of values.now)) result }
 {
-    if values[place::PLAYER_JOB_LEVEL] > WORD_MOST {
-        return Read::Refused(Refusal::OutsideLimits(place::PLAYER_JOB_LEVEL));
-    }
-    if values[place::RECIPE_JOB_LEVEL] > WORD_MOST {
-        return Read::Refused(Refusal::OutsideLimits(place::RECIPE_JOB_LEVEL));
-    }
+    within(
+        values[place::PLAYER_JOB_LEVEL] <= WORD_MOST,
+        place::PLAYER_JOB_LEVEL,
+    )?;
+    within(
+        values[place::RECIPE_JOB_LEVEL] <= WORD_MOST,
+        place::RECIPE_JOB_LEVEL,
+    )?;
     let numbers = Fields {
         player_job_level: word(values, place::PLAYER_JOB_LEVEL),
         recipe_job_level: word(values, place::RECIPE_JOB_LEVEL),

@@ -1,10 +1,10 @@
 // A context as text: one line of fifteen numbers. And a context from fifteen numbers.
 
-#![tactic(auto)]
+#![tactic(auto, unfolding(refusal::specs::Judge::judged))]
 
 mod fields;
 mod line;
 mod runs;
 
-pub use fields::{Fields, Read, from_fields};
+pub use fields::{Fields, from_fields};
 pub use line::{line_end, read};

@@ -5,8 +5,7 @@ use Rattle.std.proofs.Common.{sym, ap, ◌∙◌, inl, inr, arith, le-leb, lt-lt
 use Rattle.std.proofs.lemmas.Bool.{lt-leb}
 use Rattle.laws.specs.laws.Lists.{drop_at}
 use Rattle.laws.specs.laws.Tests.{true_false, both, and_false, either}
-use Rattle.refusal.specs.declared.Checked.TheVariants.{Passed}
-use Rattle.refusal.specs.Judge.{judged, checks_of}
+use Rattle.refusal.specs.Judge.{judged, pass, checks_of}
 use Rattle.refusal.specs.Limits.{limit_tests}
 use Rattle.refusal.specs.laws.Limits.{all_inside}
 use Rattle.action.specs.Known.{actions}
@@ -29,7 +28,7 @@ pub record Taken (values : List ℕ) : Type 0 where
   pub manipulation : get_or values 13 0 ≤ flag_set
   pub delineation : get_or values 14 0 ≤ flag_set
 
-pub passed_taken : (values : List ℕ) → Passed ≡ checks_of (number_tests values) → Taken values
+pub passed_taken : (values : List ℕ) → pass ≡ checks_of (number_tests values) → Taken values
 unfolding context_of
 passed_taken values p =
     let taken = all_inside (number_limits values) p in
@@ -54,7 +53,7 @@ passed_taken values p =
       delineation = leb-true _ _ (taken 14);
     }
 
-pub taken_passed : (values : List ℕ) → Taken values → Passed ≡ checks_of (number_tests values)
+pub taken_passed : (values : List ℕ) → Taken values → pass ≡ checks_of (number_tests values)
 unfolding judged context_of
 taken_passed values t =
     simp (
@@ -165,7 +164,7 @@ rest_words (field ∷ more) h values k e t =
       rest_words more h.1 values (k + 1) (omega arith) (λ j. t (suc j)),
     )
 
-pub passed_words : (values : List ℕ) → length values ≡ fields → Passed ≡ checks_of (number_tests values) → map word_of values ≡ values
+pub passed_words : (values : List ℕ) → length values ≡ fields → pass ≡ checks_of (number_tests values) → map word_of values ≡ values
 passed_words values e p =
     let level : TakesWords (up_to word_most) = λ n t. leb-true n word_most t in
     rest_words takes (level, (level, each_narrow (drop 2 takes) others_narrow)) values 0 e (all_inside (number_limits values) p)

@@ -1,7 +1,8 @@
 -- Laws of runs of digits.
 -- Assumes nothing.
 use Rattle.std.specs.Prelude.{◌≡◌, refl, Bool, true, false, cond, List, [], ◌∷◌, ℕ, zero, suc, ◌+◌, ◌*◌, ◌-◌, ◌^◌, ◌≤◌, ◌<◌, leb, length, take, drop, get_or}
-use Rattle.std.proofs.Common.{not-suc-le-zero, le_of_suc-le-suc, pow-suc, add-one, arith, leb-true, drop_of_length-le, get_or-take, length-take-le}
+use Rattle.std.specs.List.{prefix_len}
+use Rattle.std.proofs.Common.{one-add, not-suc-le-zero, le_of_suc-le-suc, pow-suc, add-one, arith, leb-true, drop_of_length-le, get_or-take, length-take-le}
 use Rattle.laws.specs.laws.Front.{front_le}
 use Rattle.laws.specs.laws.Lists.{drop_at}
 use Rattle.laws.specs.laws.Tests.{both}
@@ -16,6 +17,11 @@ module _ {b : ℕ} (d : digit b ≡ true) where
 
   pub digit_to : b ≤ 57
   digit_to = leb-true b 57 (both (leb 48 b) (leb b 57) d).1
+
+-- a front is as long as the library's prefix, and ends where the first element is that fails
+pub front_prefix : (f : ℕ → Bool) (text : List ℕ) → prefix_len f text ≡ front f text
+front_prefix f [] = refl
+front_prefix f (b ∷ text) = rw (front_prefix f text, one-add)
 
 -- each element of a front passes the test
 front_each : (f : ℕ → Bool) (text : List ℕ) (i : ℕ) → i < front f text → f (get_or text i 0) ≡ true

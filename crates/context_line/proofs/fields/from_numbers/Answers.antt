@@ -1,33 +1,22 @@
 -- `context_line::fields::from_numbers` meets its contract: the levels are tested here, and for the others stand numbers of a u32.
 -- Assumes nothing.
-use mathlib.Core.Path.{subst}
-use mathlib.Core.List.{List}
-use Prim.Native.Nat.{ℕ}
-use native.Mathlib.Omega.{arith}
-use borrow.Author.Tests.{le-leb, lt-leb}
-use lib.ListN.{get_or}
-use Rattle.refusal.specs.Judge.{Says}
-use Rattle.refusal.specs.laws.Judge.{fails, holds}
+use Rattle.std.proofs.Common.{◌≡◌, ◌≤◌, length, ℕ, List, get_or, subst, Ok, rules, arith}
+use Rattle.std.proofs.lemmas.Bool.Decides.{nat_tests}
+use Rattle.refusal.specs.Judge.{judged, Says, answering}
+use Rattle.context_line.specs.Shape.{fields}
 use Rattle.context_line.specs.Fields.{word_most, context_of, number_tests}
 use Rattle.context_line.specs.laws.Fields.{in_order}
-use Rattle.context_line.specs.Read.{read}
 use Rattle.context_line.specs.laws.Read.{words_read}
-use Rattle.context_line.specs.declared.fields.Read.TheVariants.{Context}
 use Rattle.context_line.proofs.fields.from_numbers.Goals as goal
 
-pub returns-then-values-gt-WORD_MOST : goal.returns-then-values-gt-WORD_MOST
-returns-then-values-gt-WORD_MOST c = fails (lt-leb _ _ c.if-values-gt-WORD_MOST.true)
-
-pub returns-then-values-gt-WORD_MOST-2 : goal.returns-then-values-gt-WORD_MOST-2
-returns-then-values-gt-WORD_MOST-2 c =
-    let player = c.if-values-gt-WORD_MOST.false in
-    let values = c.args.values.now in
-    holds (le-leb _ _ player) (fails (lt-leb (get_or values 1 0) word_most (omega (arith, player, c.if-values-gt-WORD_MOST-2.true))))
-
 pub returns : goal.returns
+unfolding judged
 returns c =
-    words_read c.args.values.now c.requires c.if-values-gt-WORD_MOST.false c.if-values-gt-WORD_MOST-2.false
-    (subst (λ (values : List ℕ). Says read (number_tests values) (Context (context_of values)) c.from_fields.result)
+    let count : length c.args.values.now ≡ fields = search rules in
+    let player : get_or c.args.values.now 0 0 ≤ word_most = grind (arith, nat_tests) in
+    let recipe : get_or c.args.values.now 1 0 ≤ word_most = grind (arith, nat_tests) in
+    words_read c.args.values.now count player recipe
+    (subst (λ (values : List ℕ). Says answering (number_tests values) (Ok (context_of values)) c.from_fields.result)
     (rw (
       c.word.ensures,
       c.word-2.ensures,
@@ -45,5 +34,5 @@ returns c =
       c.word-14.ensures,
       c.word-15.ensures,
     )
-    (in_order c.args.values.now c.requires))
+    (in_order c.args.values.now count))
     c.from_fields.ensures)
