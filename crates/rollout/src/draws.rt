@@ -6,24 +6,14 @@ ghost use Rattle.rollout.specs.Draws.{drawn_of};
 use action_set::bits;
 use refusal::Refusal;
 
-// The member that the draw names, or a refusal.
-#[derive(Clone, Copy)]
-pub enum Drawn {
-    Member(u8),
-    Refused(Refusal),
-}
-
 // Refusals 19 and 20: no draw is left at that place, or it is not below the set's size.
-pub fn draw(set: u32, draws: &[u8], at: usize) -> Drawn
+pub fn draw(set: u32, draws: &[u8], at: usize) -> Result<u8, Refusal>
     requires { SetIn set }
     ensures { result ≡ drawn_of set (drop at draws.now) }
 {
-    if at >= draws.len() {
-        return Drawn::Refused(Refusal::NoDraw);
-    }
-    let n = draws[at];
+    let n = *draws.get(at).ok_or(Refusal::NoDraw)?;
     if n as u32 >= bits::size(set) {
-        return Drawn::Refused(Refusal::DrawTooHigh);
+        return Err(Refusal::DrawTooHigh);
     }
-    Drawn::Member(bits::nth(set, n))
+    Ok(bits::nth(set, n))
 }

@@ -5,5 +5,5 @@
 mod draws;
 mod rollout;
 
-pub use draws::{Drawn, draw};
-pub use rollout::{Rolled, roll_out};
+pub use draws::draw;
+pub use rollout::roll_out;

@@ -1,7 +1,7 @@
 -- What a rollout that ended has used: the actions that its draws name are each a move where they stand, its score is bounded, draws beyond the used ones
 -- change nothing, and it ends with no fewer.
 -- Assumes nothing.
-use Rattle.std.specs.Prelude.{◌≡◌, Bool, ltb, length, take, drop, get_or}
+use Rattle.std.specs.Prelude.{◌≡◌, Bool, ltb, length, take, drop, get_or, Err}
 use Rattle.std.proofs.Math.Path.{refl, subst}
 use Rattle.std.proofs.Common.{ap, ◌∙◌, arith, ltb-true}
 use Rattle.std.proofs.Math.Bool.{true, false, cond}
@@ -28,9 +28,7 @@ use Rattle.score.specs.Result.{judged_by}
 use Rattle.score.specs.declared.result.CraftResult.{CraftResult}
 use Rattle.score.specs.laws.Bounds.{Timely, legal_timely}
 use Rattle.score.proofs.Bounds.{judged_bounded}
-use Rattle.rollout.specs.declared.rollout.Rolled.{Rolled}
-use Rattle.rollout.specs.declared.rollout.Rolled.TheVariants as L
-use Rattle.rollout.specs.Rollout.{drawn_state, strict_moves, rolled_from, sampled_of}
+use Rattle.rollout.specs.Rollout.{drawn_state, strict_moves, Rolled, ends, rolled_from, sampled_of}
 
 -- each action is a member of the set there: the moves given, and then the strict ones
 unfoldable pub Sampled : CraftContext → CraftState → ℕ → List ℕ → Type 0
@@ -72,21 +70,24 @@ pub record Rolls (c : CraftContext) (s : CraftState) (moves at : ℕ) (draws : L
   pub sampled : (n : ℕ) → at + n ≤ end → Sampled c s moves (sampled_of c s moves n draws)
   pub bounded : c.step_max ≤ step_most → (mode : Mode) → Among c s moves mode → Timely c s → ScoreIsBounded c result
   -- the first draws again, however others go on
-  pub enough : (others : List ℕ) (used : ℕ) → at + used ≡ end → take used others ≡ take used draws → rolled_from c s moves at others ≡ L.Ended result end
+  pub enough : (others : List ℕ) (used : ℕ) → at + used ≡ end → take used others ≡ take used draws → rolled_from c s moves at others ≡ ends result end
   -- each of them was used: with fewer one is wanted
-  pub fewer : (n : ℕ) → at + n < end → rolled_from c s moves at (take n draws) ≡ L.Refused NoDraw
+  pub fewer : (n : ℕ) → at + n < end → rolled_from c s moves at (take n draws) ≡ Err NoDraw
 
-never : {x : Refusal} {result : CraftResult} {end : ℕ} → L.Refused x ≡ L.Ended result end → ⊥
-never e = let z : ◌≡◌ {A = ℕ} 0 1 = cc in omega arith
+ended_with : {a b : CraftResult} {at end : ℕ} → ends a at ≡ ends b end → (a ≡ b) × (at ≡ end)
+ended_with {a} {b} {at} {end} e = let same : ◌≡◌ {A = CraftResult × ℕ} (a, at) (b, end) = cc in (ap (λ p. p.0) same, ap (λ p. p.1) same)
+
+never : {x : Refusal} {result : CraftResult} {end : ℕ} → Err x ≡ ends result end → ⊥
+never e = cc
 
 module _ (c : CraftContext) where
   -- no draw is wanted
   rolls_none : (s : CraftState) (moves at : ℕ) (draws : List ℕ) (result : CraftResult) (end : ℕ) → eqb moves 0 ≡ true
-      → L.Ended (judged_by c s moves) at ≡ L.Ended result end → Rolls c s moves at draws result end
+      → ends (judged_by c s moves) at ≡ ends result end → Rolls c s moves at draws result end
   unfolding Sampled sampled_of rolled_from
   rolls_none s moves at draws result end none e =
-      let is : judged_by c s moves ≡ result = cc in
-      let there : at ≡ end = cc in
+      let is : judged_by c s moves ≡ result = (ended_with e).0 in
+      let there : at ≡ end = (ended_with e).1 in
       record {
         least = omega arith;
         most = omega arith;
@@ -98,9 +99,9 @@ module _ (c : CraftContext) where
     where
       first : (n : ℕ) → at + n ≤ end → Sampled c s moves (sampled_of c s moves n draws)
       first zero h = tt
-      first (suc n) h = let there : at ≡ end = cc in absurd (omega arith)
+      first (suc n) h = let there : at ≡ end = (ended_with e).1 in absurd (omega arith)
 
-      again : (others : List ℕ) → rolled_from c s moves at others ≡ L.Ended (judged_by c s moves) at
+      again : (others : List ℕ) → rolled_from c s moves at others ≡ ends (judged_by c s moves) at
       again [] = rw none
       again (d ∷ others) = rw none
 
@@ -130,25 +131,25 @@ module _ (c : CraftContext) where
         first zero h = tt
         first (suc n) h = (named, rest.sampled n (omega arith))
 
-        again : (others : List ℕ) (used : ℕ) → at + used ≡ end → take used others ≡ take used (d ∷ draws) → rolled_from c s moves at others ≡ L.Ended result end
+        again : (others : List ℕ) (used : ℕ) → at + used ≡ end → take used others ≡ take used (d ∷ draws) → rolled_from c s moves at others ≡ ends result end
         again others zero h same = absurd (omega (arith, rest.least))
-        again [] (suc used) h same = let z : ◌≡◌ {A = ℕ} 0 1 = cc in absurd (omega arith)
+        again [] (suc used) h same = cc
         again (x ∷ others) (suc used) h same =
             let here : x ≡ d = cc in
             let later : take used others ≡ take used draws = cc in
             rw (here, some, low) (rest.enough others used (omega arith) later)
 
-        wanted : (n : ℕ) → at + n < end → rolled_from c s moves at (take n (d ∷ draws)) ≡ L.Refused NoDraw
+        wanted : (n : ℕ) → at + n < end → rolled_from c s moves at (take n (d ∷ draws)) ≡ Err NoDraw
         wanted zero h = rw some refl
         wanted (suc n) h = rw (some, low) (rest.fewer n (omega arith))
 
   -- THE law of a rollout that ended
-  pub rolled : (s : CraftState) (moves at : ℕ) (draws : List ℕ) (result : CraftResult) (end : ℕ) → rolled_from c s moves at draws ≡ L.Ended result end
+  pub rolled : (s : CraftState) (moves at : ℕ) (draws : List ℕ) (result : CraftResult) (end : ℕ) → rolled_from c s moves at draws ≡ ends result end
       → Rolls c s moves at draws result end
   unfolding rolled_from
   rolled s moves at [] result end e = go (eqb moves 0) refl e
     where
-      go : (none : Bool) → eqb moves 0 ≡ none → cond none (L.Ended (judged_by c s moves) at) (L.Refused NoDraw) ≡ L.Ended result end
+      go : (none : Bool) → eqb moves 0 ≡ none → cond none (ends (judged_by c s moves) at) (Err NoDraw) ≡ ends result end
           → Rolls c s moves at [] result end
       go true q e = rolls_none s moves at [] result end q e
       go false q e = absurd (never e)
@@ -160,8 +161,8 @@ module _ (c : CraftContext) where
       later = rolled_from c (drawn_state c s moves d) (strict_moves c (drawn_state c s moves d)) (at + 1) draws
 
       go : (none : Bool) → eqb moves 0 ≡ none → (low : Bool) → ltb d (size_of moves) ≡ low
-          → cond none (L.Ended (judged_by c s moves) at) (cond low later (L.Refused DrawTooHigh)) ≡ L.Ended result end
-          → (later ≡ L.Ended result end → Rolls c (drawn_state c s moves d) (strict_moves c (drawn_state c s moves d)) (at + 1) draws result end)
+          → cond none (ends (judged_by c s moves) at) (cond low later (Err DrawTooHigh)) ≡ ends result end
+          → (later ≡ ends result end → Rolls c (drawn_state c s moves d) (strict_moves c (drawn_state c s moves d)) (at + 1) draws result end)
           → Rolls c s moves at (d ∷ draws) result end
       go true q low p e rest = rolls_none s moves at (d ∷ draws) result end q e
       go false q true p e rest = rolls_next s moves at d draws result end q p (rest e)

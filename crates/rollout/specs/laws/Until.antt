@@ -1,7 +1,7 @@
 -- "until the state has a result": the definition asks for a move to draw from; of a state's own moves that is the same question, and so the rollout goes
 -- through the states by their results.
 -- Assumes nothing.
-use Rattle.std.specs.Prelude.{◌≡◌, Bool, cond, not, List, [], ◌∷◌, ℕ, ◌+◌, eqb, leb, ltb, pos}
+use Rattle.std.specs.Prelude.{◌≡◌, Bool, cond, not, List, [], ◌∷◌, ℕ, ◌+◌, eqb, leb, ltb, pos, Err}
 use Rattle.std.proofs.Math.Path.{refl}
 use Rattle.std.proofs.Common.{sym, ap, ◌∙◌}
 use Rattle.std.proofs.Math.Bool.{true, false}
@@ -20,9 +20,7 @@ use Rattle.score.specs.declared.result.CraftResult.TheVariants as R
 use Rattle.score.specs.Score.{score_of}
 use Rattle.score.specs.Result.{judged_by, result_of}
 use Rattle.simulator.specs.laws.Replay.{going_result}
-use Rattle.rollout.specs.declared.rollout.Rolled.{Rolled}
-use Rattle.rollout.specs.declared.rollout.Rolled.TheVariants as L
-use Rattle.rollout.specs.Rollout.{drawn_state, strict_moves, rolled_from}
+use Rattle.rollout.specs.Rollout.{drawn_state, strict_moves, Rolled, ends, rolled_from}
 
 -- the Rust's `check_result` answers none
 abbrev pub continues : CraftResult → Bool
@@ -59,11 +57,11 @@ module _ (c : CraftContext) (s : CraftState) where
 -- ---- the rollout in the Rust's words
 
 unfoldable pub rolled_until : CraftContext → CraftState → ℕ → List ℕ → Rolled
-rolled_until c s at [] = cond (continues (result_of c s strict)) (L.Refused NoDraw) (L.Ended (result_of c s strict) at)
+rolled_until c s at [] = cond (continues (result_of c s strict)) (Err NoDraw) (ends (result_of c s strict) at)
 rolled_until c s at (d ∷ draws) =
     cond (continues (result_of c s strict))
-    (cond (ltb d (size_of (strict_moves c s))) (rolled_until c (drawn_state c s (strict_moves c s) d) (at + 1) draws) (L.Refused DrawTooHigh))
-    (L.Ended (result_of c s strict) at)
+    (cond (ltb d (size_of (strict_moves c s))) (rolled_until c (drawn_state c s (strict_moves c s) d) (at + 1) draws) (Err DrawTooHigh))
+    (ends (result_of c s strict) at)
 
 turned : (b : Bool) (x y : Rolled) → cond (not b) x y ≡ cond b y x
 turned true x y = refl
@@ -72,8 +70,8 @@ turned false x y = refl
 -- THE law: from a state's strict moves on, the two are one
 pub rolled_until_lem : (c : CraftContext) (s : CraftState) (at : ℕ) (draws : List ℕ) → rolled_from c s (strict_moves c s) at draws ≡ rolled_until c s at draws
 unfolding rolled_from rolled_until
-rolled_until_lem c s at [] = rw (none_by_result c s strict) (turned (continues (result_of c s strict)) (L.Ended (result_of c s strict) at) (L.Refused NoDraw))
+rolled_until_lem c s at [] = rw (none_by_result c s strict) (turned (continues (result_of c s strict)) (ends (result_of c s strict) at) (Err NoDraw))
 rolled_until_lem c s at (d ∷ draws) =
     rw (none_by_result c s strict, rolled_until_lem c (drawn_state c s (strict_moves c s) d) (at + 1) draws)
-    (turned (continues (result_of c s strict)) (L.Ended (result_of c s strict) at)
-    (cond (ltb d (size_of (strict_moves c s))) (rolled_until c (drawn_state c s (strict_moves c s) d) (at + 1) draws) (L.Refused DrawTooHigh)))
+    (turned (continues (result_of c s strict)) (ends (result_of c s strict) at)
+    (cond (ltb d (size_of (strict_moves c s))) (rolled_until c (drawn_state c s (strict_moves c s) d) (at + 1) draws) (Err DrawTooHigh)))

@@ -6,6 +6,7 @@ use mathlib.Core.List.{List}
 use Prim.Native.Nat.{ℕ, ◌+◌, ◌<◌}
 use native.Mathlib.Omega.{arith}
 use lib.ListN.{length, drop}
+use Rattle.std.proofs.Common.{Ok, Err, rules}
 use Rattle.laws.specs.Bits.{has}
 use Rattle.action.specs.Known.{actions}
 use Rattle.action.specs.Table.{attributes_of}
@@ -18,26 +19,22 @@ use Rattle.moves.specs.Modes.{plain, strict}
 use Rattle.moves.specs.Moves.{moves_of}
 use Rattle.moves.specs.laws.Moves.{strict_part, legal_known, legal_playable, legal_keeps}
 use Rattle.score.specs.declared.result.CraftResult.{CraftResult}
-use Rattle.rollout.specs.declared.draws.Drawn.TheVariants as Drawn
-use Rattle.rollout.specs.declared.rollout.Rolled.{Rolled}
-use Rattle.rollout.specs.declared.rollout.Rolled.TheVariants as R
 use Rattle.rollout.specs.Draws.{drawn_of}
-use Rattle.rollout.specs.Rollout.{strict_moves, rolled_from}
+use Rattle.rollout.specs.Rollout.{strict_moves, Rolled, ends, rolled_from}
 use Rattle.rollout.specs.inner.Movable.{Movable}
 use Rattle.rollout.specs.laws.Draws.{drawn_there, drawn_is}
 use Rattle.rollout.specs.laws.Rollout.{roll_over, roll_refused, roll_sampled}
 use Rattle.rollout.proofs.rollout.roll_out.Goals as goal
-use Rattle.rollout.proofs.rollout.roll_out.Goals.{After-attributes_of-row, After-draw-drawn, After-execute_single-state, After-strict_at_once-moves}
+use Rattle.rollout.proofs.rollout.roll_out.Goals.{After-draw, After-attributes_of, After-execute-state, After-moves_at_once-moves}
 
--- ---- the next draw
 -- what is drawn is drawn of the moves
-drawn : (c : After-draw-drawn)
+drawn : (c : After-draw)
     → let l = c.loop-moves in
-    drawn_of l.moves (drop l.at c.args.draws.now) ≡ c.draw-drawn.result
-drawn c = sym c.draw-drawn.ensures
+    drawn_of l.moves (drop l.at c.args.draws.now) ≡ c.draw.result
+drawn c = sym c.draw.ensures
 
 -- ---- where it names one of them
-module _ (c : After-attributes_of-row) where
+module _ (c : After-attributes_of) where
   abbrev context : CraftContext
   context = c.args.context
 
@@ -51,13 +48,13 @@ module _ (c : After-attributes_of-row) where
   at = c.loop-moves.at
 
   abbrev n : ℕ
-  n = c.in-Member.n
+  n = c.in_ok-n.n
 
   abbrev set : ℕ
   set = c.loop-moves.moves
 
-  named : drawn_of set (drop at draws) ≡ Drawn.Member n
-  named = drawn (goal.at.After-attributes_of-row c).After-draw-drawn ∙ c.in-Member.is
+  named : drawn_of set (drop at draws) ≡ Ok n
+  named = drawn (goal.at.After-attributes_of c).After-draw ∙ c.in_ok-n.was
 
   there : at < length draws
   there = drawn_there set draws at named
@@ -72,62 +69,67 @@ module _ (c : After-attributes_of-row) where
   legal = movable.legal n (drawn_is set (drop at draws) named).is
 
 -- the turn leaves the state after it
-moved : (c : After-execute_single-state)
-    → c.execute_single-state.result ≡ execute_of (context (goal.at.After-execute_single-state c).After-attributes_of-row) (state (goal.at.After-execute_single-state c).After-attributes_of-row) (n (goal.at.After-execute_single-state c).After-attributes_of-row)
-moved c = c.execute_single-state.ensures ∙ ap (executed_of _ _ _) c.attributes_of-row.ensures
+module _ (c : After-execute-state) where
+  moved : c.execute-state.result ≡ execute_of (context (goal.at.After-execute-state c).After-attributes_of) (state (goal.at.After-execute-state c).After-attributes_of) (n (goal.at.After-execute-state c).After-attributes_of)
+  moved = c.execute-state.ensures ∙ ap (executed_of _ _ _) c.attributes_of.ensures
 
-kept : (c : After-execute_single-state) → CraftIn (context (goal.at.After-execute_single-state c).After-attributes_of-row) c.execute_single-state.result
-kept c =
-    let at_attributes_of = (goal.at.After-execute_single-state c).After-attributes_of-row in
-    rw (moved c) (legal_keeps attributes_of rows_bounded (context at_attributes_of) (state at_attributes_of) plain (n at_attributes_of) (movable at_attributes_of).inside (known at_attributes_of) (legal at_attributes_of))
+  kept : CraftIn (context (goal.at.After-execute-state c).After-attributes_of) c.execute-state.result
+  kept =
+      let t = (goal.at.After-execute-state c).After-attributes_of in
+      rw moved (legal_keeps attributes_of rows_bounded (context t) (state t) plain (n t) (movable t).inside (known t) (legal t))
 
 -- the strict moves of the state after it are moves of it
-strictly : (c : After-strict_at_once-moves) → Movable (context (goal.at.After-strict_at_once-moves c).After-attributes_of-row) c.execute_single-state.result c.strict_at_once-moves.result
+strictly : (c : After-moves_at_once-moves) → Movable (context (goal.at.After-moves_at_once-moves c).After-attributes_of) c.execute-state.result c.moves_at_once-moves.result
 strictly c =
-    let at_attributes_of = (goal.at.After-strict_at_once-moves c).After-attributes_of-row in
-    let next = c.execute_single-state.result in
+    let t = (goal.at.After-moves_at_once-moves c).After-attributes_of in
+    let next = c.execute-state.result in
     record {
-      inside = kept (goal.at.After-strict_at_once-moves c).After-execute_single-state;
-      known = c.strict_at_once-moves.ensures.1;
-      legal = λ n t.
-          let is : has (moves_of (context at_attributes_of) next strict) n ≡ true = ap (λ (set : ℕ). has set n) (sym c.strict_at_once-moves.ensures.0) ∙ t in
-          strict_part attributes_of (context at_attributes_of) next n (legal_known attributes_of (context at_attributes_of) next strict n is) is;
+      inside = kept (goal.at.After-moves_at_once-moves c).After-execute-state;
+      known = c.moves_at_once-moves.ensures.1;
+      legal = λ n t_has.
+          let is : has (moves_of (context t) next strict) n ≡ true = ap (λ (set : ℕ). has set n) (sym c.moves_at_once-moves.ensures.0) ∙ t_has in
+          strict_part attributes_of (context t) next n (legal_known attributes_of (context t) next strict n is) is;
     }
 
-pub execute_single-state-requires : goal.execute_single-state-requires
-execute_single-state-requires c =
-    rw c.attributes_of-row.ensures
+pub execute-state-requires : goal.execute-state-requires
+execute-state-requires c =
+    rw c.attributes_of.ensures
     (legal_playable attributes_of rows_bounded (context c) (state c) plain (n c) (movable c).inside (known c) (legal c), rows_bounded (n c) (known c))
 
-pub strict_at_once-moves-requires : goal.strict_at_once-moves-requires
-strict_at_once-moves-requires c = kept c
+pub moves_at_once-moves-requires : goal.moves_at_once-moves-requires
+moves_at_once-moves-requires c = kept c
 
 pub loop-moves-preserved : goal.loop-moves-preserved
 loop-moves-preserved c =
-    let at_attributes_of = (goal.at.loop-moves-preserved c).After-attributes_of-row in
-    let l = c.loop-moves in
-    let on = roll_sampled (context at_attributes_of) (state at_attributes_of) (set at_attributes_of) (at at_attributes_of) c.if-moves-eq0.false (draws at_attributes_of) (named at_attributes_of) in
-    let roll : CraftState → Rolled = λ x. rolled_from (context at_attributes_of) x (strict_moves (context at_attributes_of) x) (at at_attributes_of + 1) (drop (at at_attributes_of + 1) (draws at_attributes_of)) in (
-      ap (λ (m : ℕ). rolled_from (context at_attributes_of) c.execute_single-state.result m (at at_attributes_of + 1) (drop (at at_attributes_of + 1) (draws at_attributes_of))) c.strict_at_once-moves.ensures.0
-          ∙ ap roll (moved (goal.at.loop-moves-preserved c).After-execute_single-state) ∙ sym on ∙ l.invariant.0,
+    let t = (goal.at.loop-moves-preserved c).After-attributes_of in
+    let on = roll_sampled (context t) (state t) (set t) (at t) c.loop-moves-test.true (draws t) (named t) in
+    let roll : CraftState → ℕ → Rolled = λ x m. rolled_from (context t) x m (at t + 1) (drop (at t + 1) (draws t)) in (
+      ap (roll c.execute-state.result) c.moves_at_once-moves.ensures.0
+          ∙ ap (λ (x : CraftState). roll x (strict_moves (context t) x)) (moved (goal.at.loop-moves-preserved c).After-execute-state)
+          ∙ sym on ∙ c.loop-moves.invariant.0,
       strictly c,
-      omega (arith, there at_attributes_of),
+      omega (arith, there t),
     )
+
+pub loop-moves-smaller : goal.loop-moves-smaller
+loop-moves-smaller c = omega (arith, there (goal.at.loop-moves-smaller c).After-attributes_of)
 
 -- ---- where it ends
-pub returns-then-moves-eq0 : goal.returns-then-moves-eq0
-returns-then-moves-eq0 c =
-    let l = c.loop-moves in (
-      ap (λ (r : CraftResult). R.Ended r l.at) c.judge_single.ensures.0
-          ∙ roll_over c.args.context l.state l.moves l.at c.if-moves-eq0.true (drop l.at c.args.draws.now)
+pub returns-in_err-n : goal.returns-in_err-n
+returns-in_err-n c =
+    let l = c.loop-moves in
+    let refused : c.from_residual.result ≡ Err c.in_err-n.field-0.0 = search rules in (
+      refused
+          ∙ roll_refused c.args.context l.state l.moves l.at c.loop-moves-test.true (drop l.at c.args.draws.now) (drawn (goal.at.returns-in_err-n c).After-draw ∙ c.in_err-n.was)
           ∙ l.invariant.0,
-      (c.judge_single.ensures.1, l.invariant.2),
+      rw refused tt,
     )
 
-pub returns-in-Refused : goal.returns-in-Refused
-returns-in-Refused c =
+pub returns : goal.returns
+returns c =
     let l = c.loop-moves in (
-      roll_refused c.args.context l.state l.moves l.at c.if-moves-eq0.false (drop l.at c.args.draws.now) (drawn (goal.at.returns-in-Refused c).After-draw-drawn ∙ c.in-Refused.is)
+      ap (λ (r : CraftResult). ends r l.at) c.judge.ensures.0
+          ∙ roll_over c.args.context l.state l.moves l.at c.loop-moves-test.false (drop l.at c.args.draws.now)
           ∙ l.invariant.0,
-      tt,
+      (c.judge.ensures.1, l.invariant.2),
     )
