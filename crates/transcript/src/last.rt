@@ -17,6 +17,7 @@ fn put_finished(score: f32, out: &mut [u8], at: usize) -> usize
     text::put_hex(out, digits, bits)
 }
 
+#[tactic(auto, using(crate::specs::laws::Transcript::result_put), unfolding(crate::specs::Transcript::result_text_of))]
 fn put_result(res: CraftResult, out: &mut [u8], at: usize) -> usize
     requires { ScoreIsNumber res × (at + result_most ≤ length out.old) }
     ensures { Put out.old at (result_text_of res) result out.new × (result ≤ at + result_most) }

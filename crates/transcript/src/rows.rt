@@ -30,12 +30,9 @@ pub fn put_rows(
 {
     let mut state = start;
     let mut end = at;
-    let mut i = 0;
-    while i < part.len() {
-        let n = part[i];
-        state = step::execute_single(context, state, n, action::attributes_of(n));
+    for n in part {
+        state = step::execute(context, state, *n, action::attributes_of(*n));
         end = put_row(context, state, out, end);
-        i += 1;
     }
     end
 }

@@ -11,7 +11,7 @@ use Rattle.text.specs.Hex.{hex_of}
 use Rattle.action.specs.Actions.{Veneration, BasicSynthesis}
 use Rattle.action.specs.Table.{action_of}
 use Rattle.craft_context.specs.declared.context.CraftContext.{CraftContext}
-use Rattle.craft_state.specs.Line.{share_of, signed_share_of, display_of}
+use Rattle.craft_state.specs.Line.{part_of, display_of}
 use Rattle.craft_state.specs.Start.{start_of}
 use Rattle.step.specs.Parts.{ticked_of, effect_of}
 use Rattle.step.specs.Step.{begun_of, progressed_of, improved_of, worn_of, refreshed_of, paid_of, combined_of, timed_of, affected_of, executed_of}
@@ -53,7 +53,7 @@ pub example : transcript_of (craft 33) (Veneration ∷ BasicSynthesis ∷ BasicS
     ++ line "  300/  200 progress |     0/    0 quality | 20/40 durability |  82/100 cp"
     ++ line "finished 3F000000 executed 3 of 3"
 unfolding transcript_of reported_of row_of rows_of last_line_of result_text_of finished_of
-    display_of share_of signed_share_of right_of decimal_of signed_of hex_of
+    display_of part_of right_of decimal_of signed_of hex_of
     replay_by replay_from stop_by slip_by start_of moves_by allowed_of strictly_of own_rule strict_rule has collect elem
     executed_of begun_of progressed_of improved_of worn_of refreshed_of paid_of combined_of timed_of affected_of ticked_of effect_of action_of
     judged_by score_of to_bits of_int sub div

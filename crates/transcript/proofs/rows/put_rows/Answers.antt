@@ -15,37 +15,36 @@ use Rattle.transcript.specs.laws.Transcript.{next_known, next_legal, rest_played
 use Rattle.transcript.proofs.rows.put_rows.Goals as goal
 
 -- the row that is looked up is the table's
-pub execute_single-state-requires : goal.execute_single-state-requires
-execute_single-state-requires c =
-    let l = c.loop-i in
-    let h = c.loop-i-test.true in
-    let known = next_known _ l.state _ h l.invariant.2 in
+pub execute-state-requires : goal.execute-state-requires
+execute-state-requires c =
+    let l = c.loop-n in
+    let h = c.loop-n-test.true in
+    let known = next_known _ l.state _ h l.invariant.1 in
     rw c.attributes_of.ensures
-    (legal_playable attributes_of rows_bounded _ l.state plain _ l.invariant.1 known (next_legal _ l.state _ h l.invariant.2), rows_bounded _ known)
+    (legal_playable attributes_of rows_bounded _ l.state plain _ l.invariant.0 known (next_legal _ l.state _ h l.invariant.1), rows_bounded _ known)
 
-pub loop-i-preserved : goal.loop-i-preserved
-loop-i-preserved c =
-    let l = c.loop-i in
-    let h = c.loop-i-test.true in
-    let known = next_known _ l.state _ h l.invariant.2 in
-    let e = c.execute_single-state.ensures ∙ ap (executed_of _ _ _) c.attributes_of.ensures in
+pub loop-n-preserved : goal.loop-n-preserved
+loop-n-preserved c =
+    let l = c.loop-n in
+    let h = c.loop-n-test.true in
+    let known = next_known _ l.state _ h l.invariant.1 in
+    let e = c.execute-state.ensures ∙ ap (executed_of _ _ _) c.attributes_of.ensures in
     let p = c.put_row-end.ensures.0 in (
-      omega arith,
-      subst (CraftIn _) (sym e) (legal_keeps attributes_of rows_bounded _ l.state plain _ l.invariant.1 known (next_legal _ l.state _ h l.invariant.2)),
-      rest_played _ l.state _ h e l.invariant.2,
-      rows_over _ l.state _ h e p ∙ l.invariant.3,
-      rows_count _ l.state _ h e p ∙ l.invariant.4,
-      omega (arith, c.put_row-end.ensures.1, l.invariant.5),
-      c.put_row-end.auto.out ∙ l.invariant.6,
+      subst (CraftIn _) (sym e) (legal_keeps attributes_of rows_bounded _ l.state plain _ l.invariant.0 known (next_legal _ l.state _ h l.invariant.1)),
+      rest_played _ l.state _ h e l.invariant.1,
+      rows_over _ l.state _ h e p ∙ l.invariant.2,
+      rows_count _ l.state _ h e p ∙ l.invariant.3,
+      omega (arith, c.put_row-end.ensures.1, l.invariant.4),
+      c.put_row-end.auto.out ∙ l.invariant.5,
     )
 
 pub returns : goal.returns
 returns c =
-    let l = c.loop-i in
-    let none = rows_end c.args.context l.state c.args.part.now c.loop-i-test.false in (
+    let l = c.loop-n in
+    let none = rows_end c.args.context l.state c.args.part.now c.loop-n-test.false in (
       record {
-        next = omega (arith, ap length none, l.invariant.4);
-        same = sym (over_none l.out l.end) ∙ ap (over l.out l.end) (sym none) ∙ l.invariant.3;
+        next = omega (arith, ap length none, l.invariant.3);
+        same = sym (over_none l.out l.end) ∙ ap (over l.out l.end) (sym none) ∙ l.invariant.2;
       },
-      omega (arith, ap length none, l.invariant.4, rows_short c.args.context c.args.start c.args.part.now),
+      omega (arith, ap length none, l.invariant.3, rows_short c.args.context c.args.start c.args.part.now),
     )
