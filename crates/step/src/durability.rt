@@ -37,21 +37,41 @@ pub fn wears(state: CraftState, cost: u32) -> u32
     )
 }
 
-#[inline(always)]
-fn hurt(durability: i8, most: i8, cost: u32) -> i8
-    requires { DurabilityIn durability most × (cost ≤ wear_most) }
-    ensures { result ≡ durability -ℤ pos cost }
-{
-    durability - cost as i8
+// A durability from -19 to its most, which is from 1 to 97.
+#[derive(Clone, Copy)]
+pub struct Durability {
+    pub now: i8,
+    pub most: i8,
+    ghost inside: { DurabilityIn now most },
 }
 
-// Durability given back, up to the most.
-#[inline(always)]
-pub fn mend(durability: i8, by: u32, most: i8) -> i8
-    requires { DurabilityIn durability most × (by ≤ masters_mends) }
-    ensures { result ≡ mended_of durability by most }
-{
-    (durability + by as i8).min(most)
+impl Durability {
+    #[inline(always)]
+    fn worn_by(self, cost: u32) -> i8
+        requires { cost ≤ wear_most }
+        ensures { result ≡ self.now -ℤ pos cost }
+    {
+        self.now - cost as i8
+    }
+
+    // Given back, up to the most.
+    #[inline(always)]
+    pub fn mended_by(self, by: u32) -> i8
+        requires { by ≤ masters_mends }
+        ensures { result ≡ mended_of self.now by self.most }
+    {
+        (self.now + by as i8).min(self.most)
+    }
+
+    #[inline(always)]
+    fn refreshed_by(self, manipulation: u8) -> i8
+        ensures { result ≡ refreshed_to self.now manipulation self.most }
+    {
+        if (manipulation > 0) & (self.now > 0) {
+            return self.mended_by(MANIPULATION_MENDS);
+        }
+        self.now
+    }
 }
 
 #[inline(always)]
@@ -64,20 +84,13 @@ pub fn worn(context: CraftContext, state: CraftState, attribute: Option<u32>) ->
         return state;
     };
     let perfection = spend(state.trained_perfection_active, cost);
+    let durability = Durability {
+        now: state.durability,
+        most: context.durability_max,
+    };
     let mut next = renewed(state, state.previous_combo_action, perfection, state.action);
-    next.durability = hurt(state.durability, context.durability_max, wears(state, cost));
+    next.durability = durability.worn_by(wears(state, cost));
     next
-}
-
-#[inline(always)]
-fn refresh(durability: i8, manipulation: u8, most: i8) -> i8
-    requires { DurabilityIn durability most }
-    ensures { result ≡ refreshed_to durability manipulation most }
-{
-    if (manipulation > 0) & (durability > 0) {
-        return mend(durability, MANIPULATION_MENDS, most);
-    }
-    durability
 }
 
 // What manipulation gives back.
@@ -87,13 +100,12 @@ pub fn refreshed(context: CraftContext, state: CraftState) -> CraftState
     requires { DurabilityIn state.durability context.durability_max }
     ensures { result ≡ refreshed_of context state }
 {
-    let durability = refresh(
-        state.durability,
-        state.buffs.manipulation,
-        context.durability_max,
-    );
+    let durability = Durability {
+        now: state.durability,
+        most: context.durability_max,
+    };
     CraftState {
-        durability,
+        durability: durability.refreshed_by(state.buffs.manipulation),
         ..state
     }
 }

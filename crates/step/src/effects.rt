@@ -4,7 +4,7 @@ ghost use Rattle.craft_state.specs.Inside.{DurabilityIn};
 ghost use Rattle.step.specs.Parts.{ticked_of, mend_after, perfected_by};
 ghost use Rattle.step.specs.Step.{timed_of, buffed_of, affected_of};
 
-use super::durability::mend;
+use super::durability::Durability;
 use craft_context::CraftContext;
 use craft_state::{Buffs, CraftState, Perfection, renewed};
 
@@ -71,14 +71,13 @@ fn buffed(state: CraftState, n: u8) -> CraftState
 }
 
 #[inline(always)]
-fn mended(n: u8, durability: i8, most: i8) -> i8
-    requires { DurabilityIn durability most }
-    ensures { result ≡ mend_after n durability most }
+fn mended(durability: Durability, n: u8) -> i8
+    ensures { result ≡ mend_after n durability.now durability.most }
 {
     match n {
-        action::MASTERS_MEND => mend(durability, MASTERS_MENDS, most),
-        action::IMMACULATE_MEND => most,
-        _ => durability,
+        action::MASTERS_MEND => durability.mended_by(MASTERS_MENDS),
+        action::IMMACULATE_MEND => durability.most,
+        _ => durability.now,
     }
 }
 
@@ -100,8 +99,12 @@ pub fn affected(context: CraftContext, state: CraftState, n: u8) -> CraftState
 {
     let combo = state.previous_combo_action;
     let perfection = perfected(n, state.trained_perfection_active);
+    let durability = Durability {
+        now: state.durability,
+        most: context.durability_max,
+    };
     let mut next = renewed(buffed(state, n), combo, perfection, state.action);
-    next.durability = mended(n, state.durability, context.durability_max);
+    next.durability = mended(durability, n);
     next.quick_innovation_available = state.quick_innovation_available
         & (n != action::QUICK_INNOVATION);
     next
