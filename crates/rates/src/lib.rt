@@ -36,7 +36,7 @@ fn rated(k: usize, visits: f32, gained: f32, weights: Weights) -> Best
 }
 
 // The best child, when child k comes after those that it was found among. One that was visited no less and gained no more than the best is no
-// better, so its root is not worked out.
+// better, so its root is not worked out. The child's three floats are those of a record of the tree: a struct of them would be made for this call alone.
 pub fn better(
     best: Option<Best>,
     k: usize,
@@ -52,7 +52,7 @@ pub fn better(
     let Some(best) = best else {
         return rated(k, visits, gained, weights);
     };
-    if (best.visits <= visits) & (gained <= best.gained) {
+    if best.visits <= visits && gained <= best.gained {
         return best;
     }
     let child = rated(k, visits, gained, weights);

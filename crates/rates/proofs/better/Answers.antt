@@ -1,5 +1,6 @@
 -- `rates::better` meets its contract.
 -- Assumes nothing.
+use Rattle.laws.specs.laws.Tests.{and_both}
 use Rattle.rates.specs.laws.Better.{first, passed_over, taken, left}
 use Rattle.rates.proofs.better.Goals as goal
 
@@ -7,9 +8,9 @@ pub returns-in_default : goal.returns-in_default
 returns-in_default c =
     rw c.in_default.is (first c.args.k _ _ _ _ _ c.exploitation-gained.ensures _ c.rated.ensures (rw c.in_default.is at c.requires))
 
-pub returns-then-best-visits : goal.returns-then-best-visits
-returns-then-best-visits c =
-    rw c.in-Some.is (passed_over c.args.k _ _ _ _ _ c.exploitation-gained.ensures _ (rw c.in-Some.is at c.requires) c.if-best-visits.true)
+pub returns-then-gained-best : goal.returns-then-gained-best
+returns-then-gained-best c =
+    rw c.in-Some.is (passed_over c.args.k _ _ _ _ _ c.exploitation-gained.ensures _ (rw c.in-Some.is at c.requires) (and_both c.if-best-visits.true c.if-gained-best.true))
 
 pub returns-then-best-child : goal.returns-then-best-child
 returns-then-best-child c =
