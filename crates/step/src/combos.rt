@@ -28,20 +28,13 @@ pub fn paid(state: CraftState, n: u8, attribute: Option<u32>) -> CraftState
 fn next_combo(combo: Option<Combo>, n: u8) -> Option<Combo>
     ensures { result ≡ combo_after combo n }
 {
-    if n == action::BASIC_TOUCH {
-        return Some(Combo::BasicTouch);
+    match n {
+        action::BASIC_TOUCH => Some(Combo::BasicTouch),
+        action::OBSERVE => Some(Combo::Observe),
+        action::STANDARD_TOUCH if on_basic_touch(combo) => Some(Combo::StandardTouch),
+        action::REFINED_TOUCH if on_basic_touch(combo) => Some(Combo::RefinedTouch),
+        _ => None,
     }
-    if n == action::OBSERVE {
-        return Some(Combo::Observe);
-    }
-    let continued = on_basic_touch(combo);
-    if (n == action::STANDARD_TOUCH) & continued {
-        return Some(Combo::StandardTouch);
-    }
-    if (n == action::REFINED_TOUCH) & continued {
-        return Some(Combo::RefinedTouch);
-    }
-    None
 }
 
 #[inline(always)]
