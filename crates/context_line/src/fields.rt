@@ -10,7 +10,7 @@ use refusal::Refusal;
 
 pub const FIELDS: usize = 15;
 
-// A number for each field, as a host gives them.
+// A number for each field, as a host gives them (the C interface).
 #[derive(Clone, Copy)]
 pub struct Fields {
     pub player_job_level: u32,

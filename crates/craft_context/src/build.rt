@@ -6,7 +6,7 @@ ghost use Rattle.craft_context.specs.inner.Build.{sheet_tests, Buildable};
 ghost use Rattle.craft_context.specs.Build.{built_of, New};
 
 use super::context::{CraftContext, within};
-use super::factor::base_factor;
+use super::factor::Factor;
 use super::pool::determine_action_pool;
 use super::sheet::{CraftOptions, Player, Recipe};
 use action_set::ActionSet;
@@ -59,25 +59,25 @@ fn build(player: Player, recipe: Recipe, options: CraftOptions) -> CraftContext
     ensures { result ≡ built_of player recipe options }
 {
     let scaled = player.job_level <= recipe.job_level;
-    let base_progress_factor = base_factor(
-        player.craftsmanship,
-        recipe.progress_div,
-        PROGRESS_PLUS,
-        recipe.progress_mod,
+    let progress = Factor {
+        stat: player.craftsmanship,
+        div: recipe.progress_div,
+        plus: PROGRESS_PLUS,
+        modifier: recipe.progress_mod,
         scaled,
-    );
-    let base_quality_factor = base_factor(
-        player.control,
-        recipe.quality_div,
-        QUALITY_PLUS,
-        recipe.quality_mod,
+    };
+    let quality = Factor {
+        stat: player.control,
+        div: recipe.quality_div,
+        plus: QUALITY_PLUS,
+        modifier: recipe.quality_mod,
         scaled,
-    );
+    };
     CraftContext {
         player_job_level: player.job_level,
         recipe_job_level: recipe.job_level,
-        base_progress_factor,
-        base_quality_factor,
+        base_progress_factor: progress.truncated(),
+        base_quality_factor: quality.truncated(),
         step_max: options.max_steps,
         progress_target: recipe.progress,
         starting_quality: options.starting_quality.unwrap_or(0),

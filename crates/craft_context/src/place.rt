@@ -1,4 +1,4 @@
-// The places of a context's fields, in their order, which refusal 1 tells.
+// The places of a context's fields, in their order, which refusal 1 tells. Numbers and no enum: hosts get them, and a builder's places go on from them.
 pub const PLAYER_JOB_LEVEL: usize = 0;
 
 pub const RECIPE_JOB_LEVEL: usize = 1;
