@@ -27,6 +27,7 @@ const HALF_WAY: u32 = 0x1fbb_67ae;
 const BEYOND_ROOTS: f64 = 73786976294838206464.0;
 
 // The whole number nearest to the root of n.
+#[tactic(auto, using(crate::specs::laws::Cut::cut_is, crate::specs::laws::Cut::cut_lt, crate::specs::laws::Cut::near_up, crate::specs::laws::Cut::near_down))]
 fn root_worked(n: u64) -> u64
     requires { n < square_end }
     ensures { (result ≡ root_near n) × (result ≤ digits_end) }
@@ -36,6 +37,7 @@ fn root_worked(n: u64) -> u64
 }
 
 // The same, which the guess is where n is above (guess - 1/2)^2 and below (guess + 1/2)^2.
+#[tactic(auto, using(crate::specs::laws::Cut::guess_near))]
 fn root_near(n: u64, guess: u64) -> u64
     requires { (n < square_end) × (guess < digits_end) }
     ensures { (result ≡ root_near n) × (result ≤ digits_end) }
@@ -84,6 +86,7 @@ fn root_of(m: u32, k: u32, zeros: u32, guess: u64) -> u32
 }
 
 // The root's bit pattern, of one that is above 0 and below the infinity's. Guesses are for normal values, which are the usual ones.
+#[tactic(auto, using(crate::specs::laws::Patterns::of_subnormal, crate::specs::laws::Patterns::of_normal, crate::specs::laws::Scaled::normal_zeros))]
 fn root_bits(b: u32) -> u32
     requires { (0 < b) × (b < infinity_bits) }
     ensures { (result ≡ root_bits b) × (result < infinity_bits) }

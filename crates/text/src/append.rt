@@ -13,6 +13,7 @@ pub fn put(out: &mut [u8], at: usize, text: &[u8]) -> usize
 }
 
 // Stores one byte.
+#[tactic(auto, unfolding(crate::specs::Over::over))]
 pub fn put_byte(out: &mut [u8], at: usize, b: u8) -> usize
     requires { at < length out.old }
     ensures { Put out.old at (b ∷ []) result out.new }

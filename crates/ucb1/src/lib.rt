@@ -6,6 +6,7 @@
 ghost use Rattle.std.specs.Prelude.{◌≡◌};
 ghost use Rattle.ucb1.specs.Ucb1.{exploitation_of, exploration_of};
 
+#[tactic(auto, using(laws::specs::laws::Floats::one_bits))]
 pub fn exploitation(w: f32, visits: f32, score_sum: f32, max_score: f32) -> f32
     ensures { result ≡ exploitation_of w visits score_sum max_score }
 {
