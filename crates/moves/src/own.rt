@@ -1,5 +1,5 @@
 // Each action's own rule, and what strict mode asks beyond it.
-ghost use Rattle.std.specs.Prelude.{◌≡◌, ◌-ℤ◌};
+ghost use Rattle.std.specs.Prelude.{◌≡◌};
 ghost use Rattle.action.specs.Amount.{AtMost};
 ghost use Rattle.action.specs.Bounds.{RowBounds};
 ghost use Rattle.action.specs.Limits.{wear_most};
@@ -77,13 +77,6 @@ pub fn own_rule(context: CraftContext, state: CraftState, n: u8, row: Attributes
     }
 }
 
-pub fn lost(durability: i8, most: i8) -> i8
-    requires { DurabilityIn durability most }
-    ensures { result ≡ most -ℤ durability }
-{
-    most - durability
-}
-
 #[tactic(auto, unfolding(crate::specs::Rules::strict_rule))]
 pub fn strict_rule(context: CraftContext, state: CraftState, n: u8) -> bool
     requires { DurabilityIn state.durability context.durability_max }
@@ -94,12 +87,10 @@ pub fn strict_rule(context: CraftContext, state: CraftState, n: u8) -> bool
         action::WASTE_NOT | action::WASTE_NOT_II => no_waste_not(state),
         action::OBSERVE => state.cp >= OBSERVE_AND_TOUCH,
         action::IMMACULATE_MEND => {
-            (lost(state.durability, context.durability_max) > IMMACULATE_MEND_ABOVE)
+            (context.durability_max - state.durability > IMMACULATE_MEND_ABOVE)
                 & (state.buffs.manipulation == 0)
         }
-        action::MASTERS_MEND => {
-            lost(state.durability, context.durability_max) >= MASTERS_MEND_FROM
-        }
+        action::MASTERS_MEND => context.durability_max - state.durability >= MASTERS_MEND_FROM,
         action::MANIPULATION => state.buffs.manipulation == 0,
         action::GREAT_STRIDES => state.buffs.great_strides == 0,
         action::VENERATION | action::INNOVATION => {

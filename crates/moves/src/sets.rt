@@ -1,4 +1,4 @@
-// The rules of own.rt and strict.rt over sets: each takes its own actions off where it does not hold.
+// The rules of own.rt and strict.rt over sets, a second form for speed (docs/DECISIONS.md): each takes its own actions off where it does not hold.
 ghost use Rattle.std.specs.Prelude.{◌≡◌, ◌<◌};
 ghost use Rattle.laws.specs.Bits.{has};
 ghost use Rattle.action.specs.Known.{actions};
@@ -10,7 +10,7 @@ ghost use Rattle.moves.specs.inner.Sets.{unless_of, kind_rule};
 
 use super::own::{
     IMMACULATE_MEND_ABOVE, MASTERS_MEND_FROM, OBSERVE_AND_TOUCH, QUICK_PART, can_withstand,
-    is_unused, lost, no_waste_not, on_observe,
+    is_unused, no_waste_not, on_observe,
 };
 use action_set::ActionSet;
 use craft_context::CraftContext;
@@ -142,7 +142,7 @@ pub fn strict_moves(context: CraftContext, state: CraftState, set: u32) -> u32
     requires { DurabilityIn state.durability context.durability_max × SetIn set }
     ensures { (result ≡ keep_of (strict_rule context state) set) × SetIn result }
 {
-    let off = lost(state.durability, context.durability_max);
+    let off = context.durability_max - state.durability;
     let worn = off > IMMACULATE_MEND_ABOVE;
     let unmended = state.buffs.manipulation == 0;
     let calm = (state.buffs.veneration <= 1) & (state.buffs.innovation <= 1);

@@ -47,7 +47,7 @@ fn settled(res: CraftResult, moves: u32) -> CraftResult
     }
 }
 
-// One loop, broken with its result where it stops; the moves are worked out there alone.
+// One loop, broken with its result where it stops, the form that document 01 asks for, and so no `for`; the moves are worked out there alone.
 pub fn execute_actions(context: CraftContext, mode: Mode, list: &[u8]) -> Replay
     requires { ContextIn context × (length list.now ≤ known_front list.now) }
     ensures { (result ≡ replay_of context mode list.now) × ScoreIsNumber result.result }

@@ -1,6 +1,7 @@
 -- `moves::sets::strict_moves` meets its contract.
 -- Assumes nothing.
 use mathlib.Core.Path.{◌≡◌, ◌∙◌}
+use Rattle.std.proofs.Common.{◌-ℤ◌}
 use mir.Syntax.{w8}
 use mir.Val.{SFits}
 use mir.ValLaws.{to_z-of_z}
@@ -15,7 +16,7 @@ pub returns : goal.returns
 unfolding collect
 returns c =
     let e = durability_read c.requires.0 in
-    let fits : SFits w8 c.lost-off.result = search rules in
+    let fits : SFits w8 (c.args.context.durability_max -ℤ c.args.state.durability) = search rules in
     let left : c.unless.result ≡ leaves (strict_rules c.args.context c.args.state) c.args.set =
     simp (
       c.unless.ensures.0,
@@ -28,7 +29,9 @@ returns c =
       c.unless-set-2.ensures.0,
       c.unless-set.ensures.0,
       c.no_waste_not.ensures,
-      to_z-of_z w8 _ fits ∙ (simp (e.0, e.1) at c.lost-off.ensures),
+      e.0,
+      e.1,
+      to_z-of_z w8 _ fits,
     )
     in
     (left ∙ strict_leaves c.args.context c.args.state c.args.set c.requires.1, c.unless.ensures.1)
