@@ -3,10 +3,12 @@
 #![tactic(auto, unfolding(refusal::specs::Judge::judged))]
 
 mod buffs;
+mod craft;
 mod display;
 mod ranges;
 mod state;
 
 pub use buffs::Buffs;
+pub use craft::Craft;
 pub use display::{LINE_MOST, put_line};
 pub use state::{CraftState, Perfection, fresh, renewed};

@@ -5,7 +5,6 @@ ghost use Rattle.action.specs.Limits.{progress_most};
 ghost use Rattle.action.specs.Price.{affordable};
 ghost use Rattle.action.specs.Table.{attributes_of};
 ghost use Rattle.action_set.specs.Sets.{SetIn, keep_of};
-ghost use Rattle.craft_state.specs.Inside.{CraftIn};
 ghost use Rattle.moves.specs.Rules.{may_progress};
 ghost use Rattle.moves.specs.inner.Sets.{amount_of, finishes_with, finishing_of};
 
@@ -14,7 +13,7 @@ use super::sets::{PURE_PROGRESS, unless};
 use super::strict::QUALITY_PART;
 use action_set::bits;
 use craft_context::CraftContext;
-use craft_state::CraftState;
+use craft_state::{Craft, CraftState};
 
 // Points for the dearest are enough for all.
 #[inline(always)]
@@ -38,24 +37,24 @@ fn efficiency_of(n: u8) -> u32
 }
 
 // Progress reaches its target.
-fn finishes(context: CraftContext, state: CraftState, n: u8) -> bool
-    requires { CraftIn context state × (n < actions) }
-    ensures { result ≡ finishes_with context state (amount_of (attributes_of n).progress_efficiency) }
+fn finishes(craft: Craft, n: u8) -> bool
+    requires { n < actions }
+    ensures { result ≡ finishes_with craft.context craft.state (amount_of (attributes_of n).progress_efficiency) }
 {
     let gain = action::calc_progress_increase(
-        context.base_progress_factor,
+        craft.context.base_progress_factor,
         efficiency_of(n),
-        state.buffs.veneration,
-        state.buffs.muscle_memory,
+        craft.state.buffs.veneration,
+        craft.state.buffs.muscle_memory,
     );
-    state.progress + gain >= context.progress_target
+    craft.state.progress + gain >= craft.context.progress_target
 }
 
-pub fn keep_finishing(context: CraftContext, state: CraftState, set: u32) -> u32
-    requires { CraftIn context state × SetIn set }
-    ensures { (result ≡ keep_of (λ n. finishes_with context state (amount_of (attributes_of n).progress_efficiency)) set) × SetIn result }
+pub fn keep_finishing(craft: Craft, set: u32) -> u32
+    requires { SetIn set }
+    ensures { (result ≡ keep_of (λ n. finishes_with craft.context craft.state (amount_of (attributes_of n).progress_efficiency)) set) × SetIn result }
 {
-    bits::keep(set, |n| finishes(context, state, n))
+    bits::keep(set, |n| finishes(craft, n))
 }
 
 // `may_progress`: of those that finish, and of those that do not.

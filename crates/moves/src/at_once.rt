@@ -2,7 +2,6 @@
 ghost use Rattle.std.specs.Prelude.{◌≡◌};
 ghost use Rattle.action.specs.Table.{attributes_of};
 ghost use Rattle.action_set.specs.Sets.{SetIn, keep_of};
-ghost use Rattle.craft_state.specs.Inside.{CraftIn};
 ghost use Rattle.moves.specs.Moves.{moves_of};
 ghost use Rattle.moves.specs.inner.Sets.{strict_beyond};
 
@@ -13,38 +12,40 @@ use super::sets::{
     ONLY_TRAINED_EYE, PROGRESS, QUALITY, kind_moves, own_moves, strict_moves, unless, within,
 };
 use super::strict::is_eye_alone;
-use craft_context::CraftContext;
-use craft_state::CraftState;
+use craft_state::Craft;
 
 // The rules of `strictly`, in another order: what strict mode leaves of what the own rules left.
 #[inline(always)]
-fn strict_part(context: CraftContext, state: CraftState, set: u32) -> u32
-    requires { CraftIn context state × SetIn set }
-    ensures { (result ≡ keep_of (λ n. strict_beyond context state n (attributes_of n)) set) × SetIn result }
+fn strict_part(craft: Craft, set: u32) -> u32
+    requires { SetIn set }
+    ensures { (result ≡ keep_of (λ n. strict_beyond craft.context craft.state n (attributes_of n)) set) × SetIn result }
 {
-    if is_eye_alone(context, state) {
+    if is_eye_alone(craft.context, craft.state) {
         return within(set, ONLY_TRAINED_EYE);
     }
-    let strict = strict_moves(context, state, set);
-    let kind = kind_moves(context, state, strict);
-    let finish = keep_finishing(context, state, within(kind, PROGRESS));
-    progress_moves(context, state, kind, finish)
+    let strict = strict_moves(craft.context, craft.state, set);
+    let kind = kind_moves(craft.context, craft.state, strict);
+    let finish = keep_finishing(craft, within(kind, PROGRESS));
+    progress_moves(craft.context, craft.state, kind, finish)
 }
 
 // The rules of `allowed`, in another order: the price, which is a walk, comes last. One piece with each caller, as `step::execute`.
 #[inline(always)]
-pub fn moves_at_once(context: CraftContext, state: CraftState, mode: Mode) -> u32
-    requires { CraftIn context state }
-    ensures { (result ≡ moves_of context state mode) × SetIn result }
+pub fn moves_at_once(craft: Craft, mode: Mode) -> u32
+    ensures { (result ≡ moves_of craft.context craft.state mode) × SetIn result }
 {
-    if has_ended(context, state) {
+    if has_ended(craft.context, craft.state) {
         return 0;
     }
-    let pool = context.action_pool.0;
-    let set = unless(pool, QUALITY, state.quality < context.quality_target);
-    let own = own_moves(context, state, set);
+    let pool = craft.context.action_pool.0;
+    let set = unless(
+        pool,
+        QUALITY,
+        craft.state.quality < craft.context.quality_target,
+    );
+    let own = own_moves(craft.context, craft.state, set);
     if mode.strict {
-        return keep_payable(state.cp, strict_part(context, state, own));
+        return keep_payable(craft.state.cp, strict_part(craft, own));
     }
-    keep_payable(state.cp, own)
+    keep_payable(craft.state.cp, own)
 }

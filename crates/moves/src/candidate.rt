@@ -3,7 +3,6 @@ ghost use Rattle.std.specs.Prelude.{◌≡◌, ◌<◌};
 ghost use Rattle.action.specs.Known.{actions};
 ghost use Rattle.action.specs.Bounds.{RowBounds};
 ghost use Rattle.action.specs.Price.{affordable};
-ghost use Rattle.craft_state.specs.Inside.{CraftIn};
 ghost use Rattle.moves.specs.Rules.{may_improve};
 ghost use Rattle.moves.specs.Moves.{allowed_of, allows_of};
 
@@ -12,7 +11,7 @@ use super::own::own_rule;
 use super::strict::strictly;
 use action::Attributes;
 use craft_context::CraftContext;
-use craft_state::CraftState;
+use craft_state::{Craft, CraftState};
 
 // The full price: the candidate's combo does not count, as in the Rust.
 pub fn can_pay(points: u32, price: Option<u32>) -> bool
@@ -36,27 +35,27 @@ fn may_improve(context: CraftContext, state: CraftState, attribute: Option<u32>)
 
 // One candidate by its row.
 #[tactic(auto, unfolding(crate::specs::Moves::allowed_of))]
-pub fn allowed(context: CraftContext, state: CraftState, mode: Mode, n: u8, row: Attributes) -> bool
-    requires { CraftIn context state × RowBounds n row }
-    ensures { result ≡ allowed_of context state mode n row }
+pub fn allowed(craft: Craft, mode: Mode, n: u8, row: Attributes) -> bool
+    requires { RowBounds n row }
+    ensures { result ≡ allowed_of craft.context craft.state mode n row }
 {
     let cost = row.cp_cost;
     let quality = row.quality_efficiency;
-    if !(can_pay(state.cp, cost) & may_improve(context, state, quality)) {
+    if !(can_pay(craft.state.cp, cost) & may_improve(craft.context, craft.state, quality)) {
         return false;
     }
     if mode.strict {
-        strictly(context, state, n, row)
+        strictly(craft, n, row)
     } else {
-        own_rule(context, state, n, row)
+        own_rule(craft.context, craft.state, n, row)
     }
 }
 
 // By its row of the table.
 #[tactic(auto, using(action::specs::laws::Bounds::rows_bounded))]
-pub fn allows(context: CraftContext, state: CraftState, mode: Mode, n: u8) -> bool
-    requires { CraftIn context state × (n < actions) }
-    ensures { result ≡ allows_of context state mode n }
+pub fn allows(craft: Craft, mode: Mode, n: u8) -> bool
+    requires { n < actions }
+    ensures { result ≡ allows_of craft.context craft.state mode n }
 {
-    allowed(context, state, mode, n, action::attributes_of(n))
+    allowed(craft, mode, n, action::attributes_of(n))
 }

@@ -3,7 +3,6 @@ ghost use Rattle.std.specs.Prelude.{◌≡◌, ◌<◌};
 ghost use Rattle.action.specs.Bounds.{RowBounds};
 ghost use Rattle.action.specs.Known.{actions};
 ghost use Rattle.action_set.specs.Sets.{SetIn, keep_of};
-ghost use Rattle.craft_state.specs.Inside.{CraftIn};
 ghost use Rattle.moves.specs.Moves.{ended, allows_of, moves_of};
 ghost use Rattle.moves.specs.inner.Legal.{passed_of, legal_of};
 
@@ -12,7 +11,7 @@ use super::mode::Mode;
 use action::Attributes;
 use action_set::bits;
 use craft_context::CraftContext;
-use craft_state::CraftState;
+use craft_state::{Craft, CraftState};
 
 // Progress is at its target, no step is left, or no durability.
 pub fn has_ended(context: CraftContext, state: CraftState) -> bool
@@ -24,43 +23,36 @@ pub fn has_ended(context: CraftContext, state: CraftState) -> bool
 }
 
 // The walk over a set: each member is tested, and dropped if it fails.
-fn keep_allowed(context: CraftContext, state: CraftState, mode: Mode, set: u32) -> u32
-    requires { CraftIn context state × SetIn set }
-    ensures { (result ≡ keep_of (allows_of context state mode) set) × SetIn result }
+fn keep_allowed(craft: Craft, mode: Mode, set: u32) -> u32
+    requires { SetIn set }
+    ensures { (result ≡ keep_of (allows_of craft.context craft.state mode) set) × SetIn result }
 {
-    bits::keep(set, |n| allows(context, state, mode, n))
+    bits::keep(set, |n| allows(craft, mode, n))
 }
 
 // One candidate of a state that has not ended, by its row: the pool has it, and it passes the test.
-pub fn passes(context: CraftContext, state: CraftState, mode: Mode, n: u8, row: Attributes) -> bool
-    requires { CraftIn context state × (n < actions) × RowBounds n row }
-    ensures { result ≡ passed_of context state mode n row }
+pub fn passes(craft: Craft, mode: Mode, n: u8, row: Attributes) -> bool
+    requires { (n < actions) × RowBounds n row }
+    ensures { result ≡ passed_of craft.context craft.state mode n row }
 {
-    bits::holds(context.action_pool.0, n) && allowed(context, state, mode, n, row)
+    bits::holds(craft.context.action_pool.0, n) && allowed(craft, mode, n, row)
 }
 
 // One candidate of any state, by its row: by `has_moves` the same as looking it up in the moves.
-pub fn is_legal(
-    context: CraftContext,
-    state: CraftState,
-    mode: Mode,
-    n: u8,
-    row: Attributes,
-) -> bool
-    requires { CraftIn context state × (n < actions) × RowBounds n row }
-    ensures { result ≡ legal_of context state mode n row }
+pub fn is_legal(craft: Craft, mode: Mode, n: u8, row: Attributes) -> bool
+    requires { (n < actions) × RowBounds n row }
+    ensures { result ≡ legal_of craft.context craft.state mode n row }
 {
-    !has_ended(context, state) && passes(context, state, mode, n, row)
+    !has_ended(craft.context, craft.state) && passes(craft, mode, n, row)
 }
 
 // The walk over the pool.
 #[tactic(auto, unfolding(crate::specs::Moves::moves_by))]
-pub fn legal_moves(context: CraftContext, state: CraftState, mode: Mode) -> u32
-    requires { CraftIn context state }
-    ensures { (result ≡ moves_of context state mode) × SetIn result }
+pub fn legal_moves(craft: Craft, mode: Mode) -> u32
+    ensures { (result ≡ moves_of craft.context craft.state mode) × SetIn result }
 {
-    if has_ended(context, state) {
+    if has_ended(craft.context, craft.state) {
         return 0;
     }
-    keep_allowed(context, state, mode, context.action_pool.0)
+    keep_allowed(craft, mode, craft.context.action_pool.0)
 }

@@ -1,7 +1,6 @@
 // The rules of strict mode, in the order of the source.
 ghost use Rattle.std.specs.Prelude.{◌≡◌};
 ghost use Rattle.action.specs.Bounds.{RowBounds};
-ghost use Rattle.craft_state.specs.Inside.{CraftIn};
 ghost use Rattle.step.specs.inner.Asked.{Progressing};
 ghost use Rattle.moves.specs.Rules.{eye_alone, outside_memory, outside_veneration, after_observe, may_progress};
 ghost use Rattle.moves.specs.Moves.{strictly_of};
@@ -10,7 +9,7 @@ use super::own::{on_observe, own_rule, strict_rule};
 use action::Attributes;
 use action_set::bits;
 use craft_context::CraftContext;
-use craft_state::CraftState;
+use craft_state::{Craft, CraftState};
 
 // A finish asks for this part of the quality.
 pub const QUALITY_PART: u32 = 5;
@@ -85,19 +84,19 @@ fn may_progress(
 }
 
 #[tactic(auto, unfolding(crate::specs::Moves::strictly_of))]
-pub fn strictly(context: CraftContext, state: CraftState, n: u8, row: Attributes) -> bool
-    requires { CraftIn context state × RowBounds n row }
-    ensures { result ≡ strictly_of context state n row }
+pub fn strictly(craft: Craft, n: u8, row: Attributes) -> bool
+    requires { RowBounds n row }
+    ensures { result ≡ strictly_of craft.context craft.state n row }
 {
-    if is_eye_alone(context, state) {
+    if is_eye_alone(craft.context, craft.state) {
         return n == action::TRAINED_EYE;
     }
     let progress = row.progress_efficiency;
     let quality = row.quality_efficiency;
-    is_outside_memory(context, state, quality)
-        & is_outside_veneration(state, progress, quality)
-        & may_follow(state, n)
-        & may_progress(context, state, progress, quality)
-        & own_rule(context, state, n, row)
-        & strict_rule(context, state, n)
+    is_outside_memory(craft.context, craft.state, quality)
+        & is_outside_veneration(craft.state, progress, quality)
+        & may_follow(craft.state, n)
+        & may_progress(craft.context, craft.state, progress, quality)
+        & own_rule(craft.context, craft.state, n, row)
+        & strict_rule(craft.context, craft.state, n)
 }

@@ -1,11 +1,9 @@
 // The result of a state, by document 01's order.
 ghost use Rattle.std.specs.Prelude.{◌≡◌};
-ghost use Rattle.craft_state.specs.Inside.{CraftIn};
 ghost use Rattle.score.specs.Result.{judged_by, result_of, ScoreIsNumber};
 
 use super::scoring::score;
-use craft_context::CraftContext;
-use craft_state::CraftState;
+use craft_state::Craft;
 use moves::Mode;
 
 #[derive(Clone, Copy, Debug, PartialEq)]
@@ -22,14 +20,13 @@ pub enum CraftResult {
 // By the state's legal moves. One piece with each caller, as `step::execute`.
 #[inline(always)]
 #[tactic(auto, using(craft_state::specs::laws::Inside::durability_read), unfolding(crate::specs::Result::judged_by))]
-pub fn judge(context: CraftContext, state: CraftState, moves: u32) -> CraftResult
-    requires { CraftIn context state }
-    ensures { (result ≡ judged_by context state moves) × ScoreIsNumber result }
+pub fn judge(craft: Craft, moves: u32) -> CraftResult
+    ensures { (result ≡ judged_by craft.context craft.state moves) × ScoreIsNumber result }
 {
-    let is_worn = state.durability <= 0;
-    let is_late = state.step >= context.step_max;
-    if state.progress >= context.progress_target {
-        return CraftResult::Finished(score(context, state));
+    let is_worn = craft.state.durability <= 0;
+    let is_late = craft.state.step >= craft.context.step_max;
+    if craft.state.progress >= craft.context.progress_target {
+        return CraftResult::Finished(score(craft));
     }
     if is_worn {
         return CraftResult::DurabilityFailure;
@@ -44,9 +41,8 @@ pub fn judge(context: CraftContext, state: CraftState, moves: u32) -> CraftResul
 }
 
 // The moves are worked out anew, in the mode of the call.
-pub fn check_result(context: CraftContext, state: CraftState, mode: Mode) -> CraftResult
-    requires { CraftIn context state }
-    ensures { (result ≡ result_of context state mode) × ScoreIsNumber result }
+pub fn check_result(craft: Craft, mode: Mode) -> CraftResult
+    ensures { (result ≡ result_of craft.context craft.state mode) × ScoreIsNumber result }
 {
-    judge(context, state, moves::legal_moves(context, state, mode))
+    judge(craft, moves::legal_moves(craft, mode))
 }

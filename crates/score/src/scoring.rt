@@ -1,11 +1,10 @@
 // The score, bit for bit as craft_state.rs works it out in f32.
 ghost use Rattle.std.specs.Prelude.{◌≡◌, not, T, is_nan};
 ghost use Rattle.laws.specs.Floats.{float};
-ghost use Rattle.craft_state.specs.Inside.{CraftIn};
 ghost use Rattle.score.specs.Score.{capped_of, part_of, fewer_of, weighed_of, score_of};
 
 use craft_context::CraftContext;
-use craft_state::CraftState;
+use craft_state::{Craft, CraftState};
 use std::num;
 
 // The most that each part adds to a score: 1 in all.
@@ -73,12 +72,11 @@ fn weighed(context: CraftContext, state: CraftState) -> f32
 
 // Without a quality target the steps alone count.
 #[inline(always)]
-pub fn score(context: CraftContext, state: CraftState) -> f32
-    requires { CraftIn context state }
-    ensures { (result ≡ score_of context state) × T (not (is_nan result)) }
+pub fn score(craft: Craft) -> f32
+    ensures { (result ≡ score_of craft.context craft.state) × T (not (is_nan result)) }
 {
-    if context.quality_target == 0 {
-        return fewer_steps(state.step, context.step_max);
+    if craft.context.quality_target == 0 {
+        return fewer_steps(craft.state.step, craft.context.step_max);
     }
-    weighed(context, state)
+    weighed(craft.context, craft.state)
 }

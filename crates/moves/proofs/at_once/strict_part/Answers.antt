@@ -11,7 +11,7 @@ pub returns-then-is_eye_alone : goal.returns-then-is_eye_alone
 unfolding collect
 returns-then-is_eye_alone c =
     let eye = sym c.is_eye_alone.ensures ∙ c.if-is_eye_alone.true in
-    (c.within.ensures.0 ∙ eye_leaves c.args.context c.args.state eye attributes_of c.args.set, c.within.ensures.1)
+    (c.within.ensures.0 ∙ eye_leaves c.args.craft.context c.args.craft.state eye attributes_of c.args.set, c.within.ensures.1)
 
 -- those that finish
 pub progress_moves-requires : goal.progress_moves-requires
@@ -24,6 +24,6 @@ pub returns : goal.returns
 returns c =
     let eye = sym c.is_eye_alone.ensures ∙ c.if-is_eye_alone.false in (
       simp (c.progress_moves.ensures.0, c.kind_moves-kind.ensures.0, c.strict_moves-strict.ensures.0)
-          (beyond_leaves c.args.context c.args.state eye attributes_of c.args.set),
+          (beyond_leaves c.args.craft.context c.args.craft.state eye attributes_of c.args.set),
       c.progress_moves.ensures.1,
     )
