@@ -6,7 +6,7 @@ ghost use Rattle.rollout.specs.inner.Ends.{EndsWithin};
 
 use super::draws::draw;
 use craft_context::CraftContext;
-use craft_state::CraftState;
+use craft_state::{Craft, CraftState};
 use moves::Mode;
 use refusal::Refusal;
 use score::CraftResult;
@@ -30,8 +30,8 @@ pub fn roll_out(
     while moves != 0 {
         let n = draw(moves, draws, at)?;
         state = step::execute(context, state, n, action::attributes_of(n));
-        moves = moves::moves_at_once(context, state, Mode::STRICT);
+        moves = moves::moves_at_once(Craft { context, state }, Mode::STRICT);
         at += 1;
     }
-    Ok((score::judge(context, state, moves), at))
+    Ok((score::judge(Craft { context, state }, moves), at))
 }

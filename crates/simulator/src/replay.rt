@@ -12,7 +12,7 @@ ghost use Rattle.simulator.specs.inner.Settled.{settled_of};
 use action::Attributes;
 use action_set::ActionSet;
 use craft_context::CraftContext;
-use craft_state::{CraftState, fresh};
+use craft_state::{Craft, CraftState, fresh};
 use moves::Mode;
 use score::CraftResult;
 
@@ -26,14 +26,14 @@ pub struct Replay {
 }
 
 // The state after an action that passed the test; what did not pass would leave it as it was.
-fn play(context: CraftContext, state: CraftState, n: u8, row: Attributes, legal: bool) -> CraftState
-    requires { (legal ≡ true → Playable context state n row) × RowBounds n row }
-    ensures { result ≡ cond legal (executed_of context state n row) state }
+fn play(craft: Craft, n: u8, row: Attributes, legal: bool) -> CraftState
+    requires { (legal ≡ true → Playable craft.context craft.state n row) × RowBounds n row }
+    ensures { result ≡ cond legal (executed_of craft.context craft.state n row) craft.state }
 {
     if legal {
-        return step::execute(context, state, n, row);
+        return step::execute(craft.context, craft.state, n, row);
     }
-    state
+    craft.state
 }
 
 // What the loop was broken with, once the moves are known: a craft that goes on with none left is a failure.
@@ -54,23 +54,24 @@ pub fn execute_actions(context: CraftContext, mode: Mode, list: &[u8]) -> Replay
 {
     let mut state = fresh(context);
     let mut i = 0;
-    let result = loop {
+    let result = 'turns: loop {
+        let craft = Craft { context, state };
         if moves::has_ended(context, state) {
-            break score::judge(context, state, 0);
+            break score::judge(craft, 0);
         }
         if i >= list.len() {
             break CraftResult::Continuing;
         }
         let n = list[i];
         let row = action::attributes_of(n);
-        let legal = moves::passes(context, state, mode, n, row);
+        let legal = moves::passes(craft, mode, n, row);
         if !legal {
             break CraftResult::InvalidActionFailure;
         }
-        state = play(context, state, n, row, legal);
+        state = play(craft, n, row, legal);
         i += 1;
     };
-    let moves = moves::moves_at_once(context, state, mode);
+    let moves = moves::moves_at_once(Craft { context, state }, mode);
     Replay {
         state,
         moves: ActionSet(moves),

@@ -25,39 +25,39 @@ use Rattle.simulator.proofs.replay.execute_actions.Goals as goal
 use Rattle.simulator.proofs.replay.execute_actions.Goals.{After-attributes_of-row, After-passes-legal, After-play-state, Else-has_ended, Joined-has_ended, then-has_ended, else-has_ended+then-i-list, else-has_ended+else-i-list+then-not-legal}
 
 -- ---- the next action
-going : (c : Else-has_ended) → ended c.args.context c.loop-n.state ≡ false
+going : (c : Else-has_ended) → ended c.args.context c.turns.state ≡ false
 going c = sym c.has_ended.ensures ∙ c.if-has_ended.false
 
 -- it is known
 known : (c : After-attributes_of-row)
-    → get_or c.args.list.now c.loop-n.i 0 < actions
+    → get_or c.args.list.now c.turns.i 0 < actions
 known c = known_each _ c.requires.1 _ (omega arith)
 
 -- and its row is in the bounds
 bounded : (c : After-attributes_of-row)
-    → RowBounds (get_or c.args.list.now c.loop-n.i 0) c.attributes_of-row.result
+    → RowBounds (get_or c.args.list.now c.turns.i 0) c.attributes_of-row.result
 bounded c = rw c.attributes_of-row.ensures (rows_bounded _ (known c))
 
 -- the test is that of its row of the table
 tested : (c : After-passes-legal) {b : Bool}
     → c.passes-legal.result ≡ b
-    → passes_by attributes_of c.args.context c.loop-n.state c.args.mode (get_or c.args.list.now c.loop-n.i 0) ≡ b
+    → passes_by attributes_of c.args.context c.turns.state c.args.mode (get_or c.args.list.now c.turns.i 0) ≡ b
 tested c e = sym (ap (passed_of _ _ _ _) c.attributes_of-row.ensures) ∙ sym c.passes-legal.ensures ∙ e
 
 -- where it passes, the turn leaves the state after it
 moved : (c : After-play-state)
-    → let l = c.loop-n in
+    → let l = c.turns in
     c.play-state.result ≡ execute_of c.args.context l.state (get_or c.args.list.now l.i 0)
 moved c =
     c.play-state.ensures ∙ rw c.if-not-legal.false (ap (executed_of _ _ _) c.attributes_of-row.ensures)
 
 -- ---- where the loop stops
 stops : (c : Joined-has_ended)
-    → let l = c.loop-n in
+    → let l = c.turns in
     (replay_of c.args.context c.args.mode c.args.list.now ≡ broken_with attributes_of c.args.context c.args.mode l.state l.i c.if-has_ended.result)
     × ScoreIsNumber c.if-has_ended.result
 stops c =
-    let l = c.loop-n in
+    let l = c.turns in
     let broken = broken_with attributes_of c.args.context c.args.mode l.state l.i in
     let at_end = sym c.has_ended.ensures in
     elim c.if-has_ended.branch [
@@ -79,29 +79,30 @@ stops c =
           )
     ]
 
-pub loop-n-init : goal.loop-n-init
+pub turns-init : goal.turns-init
 unfolding replay_by
-loop-n-init c = (omega arith, simp c.fresh-state.ensures, subst (CraftIn _) (sym c.fresh-state.ensures) (start_in _ c.requires.0))
+turns-init c = (omega arith, simp c.fresh-state.ensures, subst (CraftIn _) (sym c.fresh-state.ensures) (start_in _ c.requires.0))
 
 pub passes-legal-requires : goal.passes-legal-requires
-passes-legal-requires c = (c.loop-n.invariant.2, known c, bounded c)
+passes-legal-requires c =
+    let at_attributes_of = (goal.at.passes-legal-requires c).After-attributes_of-row in (known at_attributes_of, bounded at_attributes_of)
 
 pub play-state-requires : goal.play-state-requires
 play-state-requires c =
     let at_attributes_of = (goal.at.play-state-requires c).After-attributes_of-row in
-    let inside = c.loop-n.invariant.2 in (
+    let inside = c.turns.invariant.2 in (
       λ t.
           subst (Playable _ _ _) (sym c.attributes_of-row.ensures)
           (legal_playable attributes_of rows_bounded _ _ _ _ inside (known at_attributes_of) (legal_is attributes_of _ _ _ _ (known at_attributes_of) (going (goal.at.play-state-requires c).Else-has_ended) (tested (goal.at.play-state-requires c).After-passes-legal t))),
       bounded at_attributes_of,
     )
 
-pub loop-n-preserved : goal.loop-n-preserved
-loop-n-preserved c =
-    let at_attributes_of = (goal.at.loop-n-preserved c).After-attributes_of-row in
-    let at_has_ended = (goal.at.loop-n-preserved c).Else-has_ended in
-    let l = c.loop-n in
-    let passed = tested (goal.at.loop-n-preserved c).After-passes-legal c.if-not-legal.false in
+pub turns-preserved : goal.turns-preserved
+turns-preserved c =
+    let at_attributes_of = (goal.at.turns-preserved c).After-attributes_of-row in
+    let at_has_ended = (goal.at.turns-preserved c).Else-has_ended in
+    let l = c.turns in
+    let passed = tested (goal.at.turns-preserved c).After-passes-legal c.if-not-legal.false in
     let on = place_on attributes_of _ _ l.state c.args.list.now l.i c.if-i-list.false (known at_attributes_of) (going at_has_ended) passed in
     let legal = legal_is attributes_of _ _ l.state _ (known at_attributes_of) (going at_has_ended) passed in
     let inside = legal_keeps attributes_of rows_bounded _ l.state _ _ l.invariant.2 (known at_attributes_of) legal in
