@@ -97,7 +97,7 @@ execute-state-requires c =
     (legal_playable attributes_of rows_bounded (context c) (state c) plain (n c) (movable c).inside (known c) (legal c), rows_bounded (n c) (known c))
 
 pub invariant_of-moves_at_once : goal.invariant_of-moves_at_once
-invariant_of-moves_at_once c = kept (goal.at.invariant_of-moves_at_once c).After-execute-state
+invariant_of-moves_at_once c = record { inside = kept (goal.at.invariant_of-moves_at_once c).After-execute-state }
 
 pub loop-moves-preserved : goal.loop-moves-preserved
 loop-moves-preserved c =
