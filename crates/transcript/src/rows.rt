@@ -1,12 +1,11 @@
 // The lines of the states on the way.
 ghost use Rattle.std.specs.Prelude.{◌+◌, ◌*◌, ◌≤◌, length};
 ghost use Rattle.text.specs.Over.{Put};
-ghost use Rattle.craft_state.specs.Inside.{CraftIn};
 ghost use Rattle.transcript.specs.Transcript.{row_of, row_most, rows_of};
 ghost use Rattle.transcript.specs.inner.Played.{Played};
 
 use craft_context::CraftContext;
-use craft_state::CraftState;
+use craft_state::{Craft, CraftState};
 
 // A state's line, and byte 10.
 pub fn put_row(context: CraftContext, state: CraftState, out: &mut [u8], at: usize) -> usize
@@ -18,17 +17,12 @@ pub fn put_row(context: CraftContext, state: CraftState, out: &mut [u8], at: usi
 }
 
 // A row after each action of a part whose actions are each legal where they stand.
-pub fn put_rows(
-    context: CraftContext,
-    start: CraftState,
-    part: &[u8],
-    out: &mut [u8],
-    at: usize,
-) -> usize
-    requires { CraftIn context start × Played context start part.now × (at + row_most * length part.now ≤ length out.old) }
-    ensures { Put out.old at (rows_of context start part.now) result out.new × (result ≤ at + row_most * length part.now) }
+pub fn put_rows(start: Craft, part: &[u8], out: &mut [u8], at: usize) -> usize
+    requires { Played start.context start.state part.now × (at + row_most * length part.now ≤ length out.old) }
+    ensures { Put out.old at (rows_of start.context start.state part.now) result out.new × (result ≤ at + row_most * length part.now) }
 {
-    let mut state = start;
+    let context = start.context;
+    let mut state = start.state;
     let mut end = at;
     for n in part {
         state = step::execute(context, state, *n, action::attributes_of(*n));

@@ -9,6 +9,7 @@ ghost use Rattle.transcript.specs.Transcript.{transcript_of, transcript_most};
 use super::last::put_last;
 use super::rows::{put_row, put_rows};
 use craft_context::CraftContext;
+use craft_state::Craft;
 use moves::Mode;
 
 // In bytes: a row at the start and after each of 255 actions, and the last line, fit in these.
@@ -22,8 +23,9 @@ pub fn put_transcript(context: CraftContext, list: &[u8], out: &mut [u8]) -> usi
     let replay = simulator::execute_actions(context, Mode::PLAIN, list);
     let executed = replay.executed;
     let result = replay.result;
-    let start = craft_state::fresh(context);
-    let rows = put_row(context, start, out, 0);
-    let last = put_rows(context, start, &list[..executed], out, rows);
+    let state = craft_state::fresh(context);
+    let rows = put_row(context, state, out, 0);
+    let start = Craft { context, state };
+    let last = put_rows(start, &list[..executed], out, rows);
     put_last(result, executed as u32, list.len() as u32, out, last)
 }

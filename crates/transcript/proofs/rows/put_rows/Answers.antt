@@ -41,10 +41,10 @@ loop-n-preserved c =
 pub returns : goal.returns
 returns c =
     let l = c.loop-n in
-    let none = rows_end c.args.context l.state c.args.part.now c.loop-n-test.false in (
+    let none = rows_end c.args.start.context l.state c.args.part.now c.loop-n-test.false in (
       record {
         next = omega (arith, ap length none, l.invariant.3);
         same = sym (over_none l.out l.end) ∙ ap (over l.out l.end) (sym none) ∙ l.invariant.2;
       },
-      omega (arith, ap length none, l.invariant.3, rows_short c.args.context c.args.start c.args.part.now),
+      omega (arith, ap length none, l.invariant.3, rows_short c.args.start.context c.args.start.state c.args.part.now),
     )

@@ -36,12 +36,17 @@ part_length c = length-take _ (start_of c).args.list.now ∙ min-eq_left (promis
 pub slice_bounds-put_rows-end : goal.slice_bounds-put_rows-end
 slice_bounds-put_rows-end c = sym (part_length (goal.at.slice_bounds-put_rows-end c).After-execute_actions-replay)
 
+-- a craft starts inside the limits
+pub invariant_of-start : goal.invariant_of-start
+invariant_of-start c =
+    let s = start_of (goal.at.invariant_of-start c).After-execute_actions-replay in
+    record { inside = subst (CraftIn s.args.context) (sym c.fresh-state.ensures) (start_in s.args.context s.requires.0) }
+
 pub put_rows-last-requires : goal.put_rows-last-requires
 put_rows-last-requires c =
     let at_execute_actions = (goal.at.put_rows-last-requires c).After-execute_actions-replay in
     let s = start_of at_execute_actions in
-    let e = c.fresh-start.ensures in (
-      subst (CraftIn s.args.context) (sym e) (start_in s.args.context s.requires.0),
+    let e = c.fresh-state.ensures in (
       subst (λ (x : CraftState). Played s.args.context x (take c.execute_actions-replay.result.executed s.args.list.now)) (sym e)
           (executed_played s.args.context s.args.list.now s.requires.0 (omega (arith, byte s)) s.requires.1 c.execute_actions-replay.ensures.0),
       omega (arith, c.put_row-rows.ensures.1, (promise at_execute_actions).few, part_length at_execute_actions),
@@ -58,4 +63,4 @@ put_last-requires c =
 pub returns : goal.returns
 returns c =
     let s = start_of (goal.at.returns c).After-execute_actions-replay in
-    put_as (transcript_is s.args.context s.args.list.now c.fresh-start.ensures c.execute_actions-replay.ensures.0) (then (then c.put_row-rows.ensures.0 c.put_rows-last.ensures.0) c.put_last.ensures)
+    put_as (transcript_is s.args.context s.args.list.now c.fresh-state.ensures c.execute_actions-replay.ensures.0) (then (then c.put_row-rows.ensures.0 c.put_rows-last.ensures.0) c.put_last.ensures)
