@@ -9,7 +9,7 @@ use super::place;
 use action_set::ActionSet;
 use refusal::Refusal;
 
-#[derive(Clone, Copy)]
+#[derive(Clone, Copy, Debug, PartialEq, Eq)]
 pub struct CraftContext {
     pub player_job_level: u32,
     pub recipe_job_level: u32,

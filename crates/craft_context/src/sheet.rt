@@ -1,5 +1,5 @@
 // What a context is built from: player, recipe and options, with the fields of the Rust in its order.
-#[derive(Clone, Copy)]
+#[derive(Clone, Copy, Debug, PartialEq, Eq)]
 pub struct Player {
     pub job_level: u32,
     pub craftsmanship: u32,
@@ -7,7 +7,7 @@ pub struct Player {
     pub cp: u32,
 }
 
-#[derive(Clone, Copy)]
+#[derive(Clone, Copy, Debug, PartialEq, Eq)]
 pub struct Recipe {
     pub recipe_level: u32,
     pub job_level: u32,
@@ -23,7 +23,7 @@ pub struct Recipe {
     pub conditions_flag: u32,
 }
 
-#[derive(Clone, Copy)]
+#[derive(Clone, Copy, Debug, PartialEq, Eq)]
 pub struct CraftOptions {
     pub max_steps: u8,
     pub starting_quality: Option<u32>,
