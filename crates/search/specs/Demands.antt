@@ -3,8 +3,7 @@
 -- Assumes nothing.
 use Rattle.std.specs.Prelude.{◌≡◌, ℕ, Bool, ◌⊎◌, List, ◌≢◌}
 use Rattle.refusal.specs.declared.Report.{Report}
-use Rattle.refusal.specs.declared.Checked.TheVariants.{Passed}
-use Rattle.refusal.specs.Judge.{Test, checks_of}
+use Rattle.refusal.specs.Judge.{Test, pass, checks_of}
 use Rattle.refusal.specs.Demands.{Among, TellsFirst}
 
 -- one answer meets the statement, and one state of the records and of the room at exit
@@ -19,7 +18,7 @@ RefusesInPart {A} {B} {C} told numbers late first records room statement =
     (r : A) (after : B) (written : C) → statement r after written
     → Among numbers (told r).0
     × (((told r).0 ≢ 0) → written ≡ room)
-    × ((Passed ≢ checks_of first) → after ≡ records)
+    × ((pass ≢ checks_of first) → after ≡ records)
     × (Among late (told r).0 ⊎ (after ≡ records))
 
 -- E1's demand beside both

@@ -1,7 +1,7 @@
 -- Document 02, E7: "Port `search_oneshot` with `select`, `ucb1` and `expand_and_rollout`"; "An iteration that is refused stores nothing". One iteration, a pure
 -- step on the records, their count and the draws used: it selects, rolls out, stores one record or the whole path, and propagates back.
 -- Assumes nothing.
-use Rattle.std.specs.Prelude.{ℕ, suc, ◌+◌, ◌-◌, Bool, false, cond, ◌&&◌, List, [], ◌∷◌, length, drop, ◌==◌, nat_le, slice_set, Float}
+use Rattle.std.specs.Prelude.{ℕ, suc, ◌+◌, ◌-◌, Bool, false, cond, ◌&&◌, List, [], ◌∷◌, length, drop, ◌==◌, nat_le, slice_set, Float, Ok, Err}
 use Rattle.std.specs.Float.Ieee.{le}
 use Rattle.refusal.specs.declared.Refusal.{Refusal}
 use Rattle.refusal.specs.declared.Refusal.TheVariants.{NoRoom}
@@ -13,9 +13,7 @@ use Rattle.moves.specs.Moves.{moves_of}
 use Rattle.moves.specs.Modes.{strict}
 use Rattle.score.specs.declared.result.CraftResult.{CraftResult}
 use Rattle.score.specs.declared.result.CraftResult.TheVariants as R
-use Rattle.rollout.specs.declared.rollout.Rolled.{Rolled}
-use Rattle.rollout.specs.declared.rollout.Rolled.TheVariants as L
-use Rattle.rollout.specs.Rollout.{rolled_from, sampled_of}
+use Rattle.rollout.specs.Rollout.{Rolled, rolled_from, sampled_of}
 use Rattle.tree.specs.declared.node.Node.{Node}
 use Rattle.tree.specs.Node.{plus_zero}
 use Rattle.tree.specs.Tree.{node_at, inserted_of, back_of, max_at}
@@ -114,8 +112,8 @@ module _ (c : CraftContext) (o : SearchOptions) (logs : List Float) (draws : Lis
   room_for g result end stored = cond (nat_le (g.count + stored) (length g.nodes)) (Goes (grown_of g result end stored)) (Stops (NoRoom (g.count + stored)))
 
   abbrev pub turn_by : Growth → Rolled → Turn
-  turn_by g (L.Ended result end) = room_for g result end (stored_of (is_worth o.score_storage_threshold (max_at g.nodes 0) result) (end - g.at))
-  turn_by g (L.Refused x) = Stops x
+  turn_by g (Ok (result, end)) = room_for g result end (stored_of (is_worth o.score_storage_threshold (max_at g.nodes 0) result) (end - g.at))
+  turn_by g (Err x) = Stops x
 
   unfoldable pub iterate_of : Growth → Turn
   iterate_of g = turn_by g (rolled_of g)

@@ -1,13 +1,11 @@
 -- Document 02, E7: "An iteration that is refused stores nothing, earlier ones stand, and their number is returned; room too short for the path is 6 after them,
 -- no path written"; "The number of draws used is reported and equals what the definition consumes, a refused iteration's draws not counted".
 -- Assumes nothing.
-use Rattle.std.specs.Prelude.{◌≡◌, ℕ, zero, suc, ◌+◌, List, [], ◌∷◌, ◌++◌, length, Float}
+use Rattle.std.specs.Prelude.{◌≡◌, ℕ, zero, suc, ◌+◌, List, [], ◌∷◌, ◌++◌, length, Float, Result, Ok, Err}
 use Rattle.refusal.specs.declared.Refusal.{Refusal}
-use Rattle.refusal.specs.declared.Checked.{Checked}
-use Rattle.refusal.specs.declared.Checked.TheVariants as K
 use Rattle.refusal.specs.declared.Report.{Report}
 use Rattle.refusal.specs.Report.{report_of, success}
-use Rattle.refusal.specs.Judge.{Test, judged, room_test}
+use Rattle.refusal.specs.Judge.{Test, judged, Checked, pass, room_test}
 use Rattle.text.specs.Over.{over}
 use Rattle.craft_context.specs.declared.context.CraftContext.{CraftContext}
 use Rattle.craft_context.specs.Limits.{context_tests}
@@ -20,8 +18,6 @@ use Rattle.tree.specs.Refusals.{new_count}
 use Rattle.search.specs.declared.options.SearchOptions.{SearchOptions}
 use Rattle.search.specs.declared.entry.Progress.{Progress}
 use Rattle.search.specs.declared.entry.Found.{Found}
-use Rattle.search.specs.declared.entry.Searched.{Searched}
-use Rattle.search.specs.declared.entry.Searched.TheVariants as S
 use Rattle.search.specs.Options.{search_test}
 use Rattle.search.specs.Select.{state_at}
 use Rattle.search.specs.Iterate.{Growth, Turn, Goes, Stops, iterate_of}
@@ -39,9 +35,9 @@ on_turn goes stops (Stops x) = stops x
 
 module _ (c : CraftContext) (o : SearchOptions) (logs : List Float) (draws : List ℕ) where
   unfoldable pub grow_from : ℕ → Growth → ℕ → Outcome
-  grow_from zero g iterations = record { growth = g; iterations = iterations; checked = K.Passed }
+  grow_from zero g iterations = record { growth = g; iterations = iterations; checked = pass }
   grow_from (suc left) g iterations =
-      on_turn (λ next. grow_from left next (iterations + 1)) (λ x. record { growth = g; iterations = iterations; checked = K.Refused x })
+      on_turn (λ next. grow_from left next (iterations + 1)) (λ x. record { growth = g; iterations = iterations; checked = Err x })
       (iterate_of c o logs draws g)
 
   -- record 0 has the plain moves of the start
@@ -80,16 +76,20 @@ asked_tests nodes logs c o = early_tests (length nodes) logs c o
 
 -- by what stopped the iterations, and then by the room for the path
 abbrev pub settled_by : {A : Type 0} → (Refusal → A) → A → List Test → Checked → A
-settled_by refused found room K.Passed = judged refused found room
-settled_by refused found room (K.Refused x) = refused x
+settled_by refused found room (Ok u) = judged refused found room
+settled_by refused found room (Err x) = refused x
 
 abbrev pub path_tests : Outcome → ℕ → List Test
 path_tests z room = room_test room (length (path_of z)) ∷ []
 
+-- what was done and found; or a refusal, and what was done before it
+abbrev pub Searched : Type 0
+Searched = Result (Progress × Found) (Refusal × Progress)
+
 -- the number of a refusal, or 0, and what also comes back
 abbrev pub searched_told : Searched → Report
-searched_told (S.Found progress found) = success
-searched_told (S.Refused x progress) = report_of x
+searched_told (Ok p) = success
+searched_told (Err p) = report_of p.0
 
 module _ (c : CraftContext) (o : SearchOptions) (logs : List Float) (draws : List ℕ) (nodes : List Node) (out : List ℕ) where
   abbrev grown : Outcome
@@ -97,8 +97,8 @@ module _ (c : CraftContext) (o : SearchOptions) (logs : List Float) (draws : Lis
 
   abbrev pub searched_of : Searched
   searched_of =
-      judged (λ x. S.Refused x no_progress)
-      (settled_by (λ x. S.Refused x (progress_of grown)) (S.Found (progress_of grown) (found_of c grown)) (path_tests grown (length out)) grown.checked)
+      judged (λ x. Err (x, no_progress))
+      (settled_by (λ x. Err (x, progress_of grown)) (Ok (progress_of grown, found_of c grown)) (path_tests grown (length out)) grown.checked)
       (asked_tests nodes logs c o)
 
   -- the records at exit: what an accepted iteration stored stands

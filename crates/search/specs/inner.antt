@@ -3,4 +3,3 @@ pub mod Links
 pub mod Newest
 pub mod Grown
 pub mod Ready
-pub mod Entry

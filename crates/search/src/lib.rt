@@ -11,5 +11,5 @@ mod plan;
 mod select;
 mod store;
 
-pub use entry::{Found, Progress, Searched, search};
+pub use entry::{Found, Progress, search};
 pub use options::SearchOptions;

@@ -3,6 +3,8 @@
 ghost use Rattle.std.specs.Prelude.{◌≡◌, ◌*◌, ◌<◌, length};
 ghost use Rattle.search.specs.inner.Links.{linked, older_at, last_link, top_of, link_of};
 
+use std::cmp;
+
 // As many records as the index has room for: those of a search that stores few whole paths.
 const LINKED: usize = 16384;
 
@@ -13,10 +15,7 @@ pub const LINKS: usize = 2 * LINKED;
 pub fn top_of(count: usize) -> usize
     ensures { result ≡ top_of count }
 {
-    if count < LINKED {
-        return count;
-    }
-    LINKED
+    cmp::min(count, LINKED)
 }
 
 // A record past the index has no child before it.

@@ -8,10 +8,10 @@ ghost use Rattle.tree.specs.Sound.{is_count};
 ghost use Rattle.search.specs.Options.{iterations_most, is_log, are_logs, are_options, search_test};
 ghost use Rattle.search.specs.Select.{ln_of};
 
-use refusal::{Checked, Refusal};
+use refusal::Refusal;
 use std::num;
 
-#[derive(Clone, Copy)]
+#[derive(Clone, Copy, Debug, PartialEq)]
 pub struct SearchOptions {
     pub iterations: u32,
     // From this score on the whole path of a finished rollout is stored.
@@ -47,12 +47,10 @@ fn are_logs(logs: &[f32]) -> bool
     if logs.len() < LOGARITHMS {
         return false;
     }
-    let mut v: usize = 0;
-    while v < LOGARITHMS {
+    for v in 0..LOGARITHMS {
         if !is_log(logs[v]) {
             return false;
         }
-        v += 1;
     }
     true
 }
@@ -72,15 +70,13 @@ fn are_options(options: SearchOptions, step_max: u8) -> bool
 }
 
 // Refusal 21.
-pub fn check_search(logs: &[f32], options: SearchOptions, step_max: u8) -> Checked
+pub fn check_search(logs: &[f32], options: SearchOptions, step_max: u8) -> Result<(), Refusal>
     ensures { result ≡ checked_of (search_test logs.now options step_max) }
 {
-    if are_options(options, step_max) {
-        if are_logs(logs) {
-            return Checked::Passed;
-        }
+    if are_options(options, step_max) && are_logs(logs) {
+        return Ok(());
     }
-    Checked::Refused(Refusal::BadSearch)
+    Err(Refusal::BadSearch)
 }
 
 // The logarithm of so many visits; of none, that of one, which no child is rated by.

@@ -2,32 +2,20 @@
 ghost use Rattle.std.specs.Prelude.{◌≡◌, ◌+◌, ◌^◌, ◌<◌, ◌≤◌, length};
 ghost use Rattle.rollout.specs.inner.Movable.{Movable};
 ghost use Rattle.search.specs.Iterate.{score_in, is_worth, stored_of};
-ghost use Rattle.search.specs.inner.Ready.{refused_plan, plan_room, plan_of};
+ghost use Rattle.search.specs.inner.Ready.{plan_of};
 
 use craft_context::CraftContext;
 use craft_state::CraftState;
-use refusal::{Checked, Refusal};
-use rollout::Rolled;
+use refusal::Refusal;
 use score::CraftResult;
+use std::cmp;
 
-// How many records are stored, the score that is propagated from the last of them, and the place of the next draw; or a refusal.
-#[derive(Clone, Copy)]
+// How many records are stored, the score that is propagated from the last of them, and the place of the next draw.
+#[derive(Clone, Copy, Debug, PartialEq)]
 pub struct Plan {
-    pub checked: Checked,
     pub stored: usize,
     pub score: f32,
     pub at: usize,
-}
-
-fn refused(x: Refusal) -> Plan
-    ensures { result ≡ refused_plan x }
-{
-    Plan {
-        checked: Checked::Refused(x),
-        stored: 0,
-        score: 0.0,
-        at: 0,
-    }
 }
 
 // What is propagated.
@@ -36,10 +24,7 @@ fn score_in(res: CraftResult) -> f32
 {
     match res {
         CraftResult::Finished(score) => score,
-        CraftResult::DurabilityFailure => 0.0,
-        CraftResult::MaxStepsFailure => 0.0,
-        CraftResult::InvalidActionFailure => 0.0,
-        CraftResult::Continuing => 0.0,
+        _ => 0.0,
     }
 }
 
@@ -49,10 +34,7 @@ fn is_worth(threshold: f32, best: f32, res: CraftResult) -> bool
 {
     match res {
         CraftResult::Finished(score) => (score >= threshold) & (score >= best),
-        CraftResult::DurabilityFailure => false,
-        CraftResult::MaxStepsFailure => false,
-        CraftResult::InvalidActionFailure => false,
-        CraftResult::Continuing => false,
+        _ => false,
     }
 }
 
@@ -60,29 +42,7 @@ fn is_worth(threshold: f32, best: f32, res: CraftResult) -> bool
 fn stored_of(whole: bool, used: usize) -> usize
     ensures { (result ≡ stored_of whole used) × (result ≤ used) }
 {
-    if whole {
-        return used;
-    }
-    if used == 0 {
-        return 0;
-    }
-    1
-}
-
-fn in_room(count: usize, records: usize, res: CraftResult, end: usize, stored: usize) -> Plan
-    requires { count + stored < 2 ^ 64 }
-    ensures { result ≡ plan_room count records res end stored }
-{
-    let room = refusal::check_room(records, count + stored);
-    if let Checked::Refused(x) = room {
-        return refused(x);
-    }
-    Plan {
-        checked: Checked::Passed,
-        stored,
-        score: score_in(res),
-        at: end,
-    }
+    if whole { used } else { cmp::min(used, 1) }
 }
 
 // The rollout's first draw is of the record's unused moves; with none of them it ends where it starts.
@@ -96,16 +56,17 @@ pub fn planned(
     count: usize,
     records: usize,
     at: usize,
-) -> Plan
+) -> Result<Plan, Refusal>
     requires { Movable context state unused × (at ≤ length draws.now) × (count ≤ records) × (records + length draws.now < 2 ^ 64) }
     ensures { result ≡ plan_of context threshold state unused best count records at draws.now }
 {
-    let rolled = rollout::roll_out(context, state, unused, draws, at);
-    match rolled {
-        Rolled::Refused(x) => refused(x),
-        Rolled::Ended(result, end) => {
-            let whole = is_worth(threshold, best, result);
-            in_room(count, records, result, end, stored_of(whole, end - at))
-        }
-    }
+    let (res, end) = rollout::roll_out(context, state, unused, draws, at)?;
+    let whole = is_worth(threshold, best, res);
+    let stored = stored_of(whole, end - at);
+    refusal::check_room(records, count + stored)?;
+    Ok(Plan {
+        stored,
+        score: score_in(res),
+        at: end,
+    })
 }

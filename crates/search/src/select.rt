@@ -1,15 +1,15 @@
 // `select`: from record 0 on to the child of greatest ucb1, while a record has no unused moves and has children.
-ghost use Rattle.std.specs.Prelude.{◌≡◌, ◌+◌, ◌*◌, true, not, length, ◌==◌};
+ghost use Rattle.std.specs.Prelude.{◌≡◌, ◌+◌, ◌*◌, not, length, ◌==◌};
 ghost use Rattle.action.specs.Table.{attributes_of};
 ghost use Rattle.step.specs.Step.{execute_of};
 ghost use Rattle.step.specs.inner.Asked.{Playable};
-ghost use Rattle.rates.specs.Best.{no_best};
-ghost use Rattle.rates.specs.inner.Holds.{Holds, Asks};
-ghost use Rattle.tree.specs.Tree.{node_at, is_child};
-ghost use Rattle.search.specs.Select.{ln_of, weights_of, next_of};
+ghost use Rattle.rates.specs.inner.Holds.{Kept, Holds, Asks};
+ghost use Rattle.tree.specs.Tree.{node_at};
+ghost use Rattle.tree.specs.inner.Best.{child_at};
+ghost use Rattle.search.specs.Select.{next_of};
 ghost use Rattle.search.specs.inner.Links.{linked, top_of};
-ghost use Rattle.search.specs.inner.Newest.{better_node, better_child, best_down, FairNode, Late, Linked};
-ghost use Rattle.search.specs.inner.Ready.{Ready, Logged, Rating, chosen_of};
+ghost use Rattle.search.specs.inner.Newest.{better_node, best_down, Late, Linked};
+ghost use Rattle.search.specs.inner.Ready.{Ready, Rating, chosen_of};
 
 use super::links::{last_child, older, top_of};
 use super::options::{SearchOptions, ln_at};
@@ -19,7 +19,7 @@ use rates::{Best, Weights};
 use tree::{Node, is_child, node_at};
 
 // A record, and the state there.
-#[derive(Clone, Copy)]
+#[derive(Clone, Copy, Debug, PartialEq, Eq)]
 pub struct Chosen {
     pub at: usize,
     pub state: CraftState,
@@ -31,66 +31,51 @@ fn has_unused(n: Node) -> bool
     n.unused != 0
 }
 
-fn weights_at(logs: &[f32], options: SearchOptions, visits: f32) -> Weights
-    requires { Logged logs.now visits }
-    ensures { result ≡ weights_of options (ln_of logs.now visits) }
-{
-    Weights {
-        w: options.max_score_weighting_constant,
-        c: options.exploration_constant,
-        ln: ln_at(logs, visits),
-    }
-}
-
-fn better_node(best: Best, k: usize, n: Node, weights: Weights) -> Best
+// Child k is the best, if none is so far or it is better.
+fn better_node(best: Option<Best>, k: usize, n: Node, weights: Weights) -> Best
     requires { Asks best n.visits n.score_sum n.max_score weights }
-    ensures { (result ≡ better_node best k n weights) × Holds weights result }
+    ensures { (result ≡ better_node best k n weights) × Kept weights result }
 {
     rates::better(best, k, n.visits, n.score_sum, n.max_score, weights)
 }
 
-fn better_child(best: Best, k: usize, n: Node, parent: usize, weights: Weights) -> Best
-    requires { Holds weights best × (is_child k n parent ≡ true → FairNode n weights) }
-    ensures { (result ≡ better_child best k n parent weights) × Holds weights result }
-{
-    if is_child(k, n, parent) {
-        return better_node(best, k, n, weights);
-    }
-    best
-}
-
 // The children past the index, the newest first.
-fn best_late(nodes: &[Node], count: usize, parent: usize, weights: Weights) -> Best
+fn best_late(nodes: &[Node], count: usize, parent: usize, weights: Weights) -> Option<Best>
     requires { Late nodes.now count parent weights }
-    ensures { (best_down weights nodes.now parent (top_of count) result ≡ best_down weights nodes.now parent count no_best) × Holds weights result }
+    ensures { (best_down weights nodes.now parent (top_of count) result ≡ best_down weights nodes.now parent count None) × Holds weights result }
 {
-    let top = top_of(count);
-    let mut best = Best::none();
-    let mut k = count;
-    while top < k {
-        k -= 1;
+    let mut best = None;
+    for k in (top_of(count)..count).rev() {
         let n = node_at(nodes, k);
-        best = better_child(best, k, n, parent, weights);
+        if is_child(k, n, parent) {
+            best = Some(better_node(best, k, n, weights));
+        }
     }
     best
 }
 
 // And those by the index, from the last on.
-fn best_linked(nodes: &[Node], links: &[u32], last: usize, weights: Weights, late: Best) -> Best
+fn best_linked(
+    nodes: &[Node],
+    links: &[u32],
+    last: usize,
+    weights: Weights,
+    late: Option<Best>,
+) -> Option<Best>
     requires { Linked nodes.now links.now last weights late × (length links.now ≡ 2 * linked) }
     ensures { result ≡ best_down weights nodes.now (node_at nodes.now last).parent (last + 1) late }
 {
     let mut best = late;
     let mut k = last;
+    // The steps are the index's own, so no range goes over them.
     while k != 0 {
-        let n = node_at(nodes, k);
-        best = better_node(best, k, n, weights);
+        best = Some(better_node(best, k, node_at(nodes, k), weights));
         k = older(links, k);
     }
     best
 }
 
-// 0 where the way down ends.
+// None where the way down ends.
 fn next_child(
     nodes: &[Node],
     links: &[u32],
@@ -98,20 +83,22 @@ fn next_child(
     options: SearchOptions,
     count: usize,
     k: usize,
-) -> usize
+) -> Option<usize>
     requires { Rating options logs.now nodes.now count links.now k }
-    ensures { result ≡ next_of options logs.now nodes.now count k }
+    ensures { result ≡ child_at (next_of options logs.now nodes.now count k) }
 {
     let n = node_at(nodes, k);
-    let unused = has_unused(n);
-    if unused {
-        return 0;
+    if has_unused(n) {
+        return None;
     }
-    let weights = weights_at(logs, options, n.visits);
+    let weights = Weights {
+        w: options.max_score_weighting_constant,
+        c: options.exploration_constant,
+        ln: ln_at(logs, n.visits),
+    };
     let late = best_late(nodes, count, k, weights);
-    let last = last_child(links, k);
-    let best = best_linked(nodes, links, last, weights, late);
-    best.at
+    let best = best_linked(nodes, links, last_child(links, k), weights, late);
+    Some(best?.at)
 }
 
 // The state after a legal action.
@@ -119,13 +106,7 @@ pub fn stepped(context: CraftContext, state: CraftState, n: u8) -> CraftState
     requires { Playable context state n (attributes_of n) }
     ensures { result ≡ execute_of context state n }
 {
-    step::execute_single(context, state, n, action::attributes_of(n))
-}
-
-fn made(at: usize, state: CraftState) -> Chosen
-    ensures { result ≡ record { at = at; state = state } }
-{
-    Chosen { at, state }
+    step::execute(context, state, n, action::attributes_of(n))
 }
 
 // The state is carried along, so that none is stored.
@@ -140,14 +121,12 @@ pub fn select(
     requires { Ready context options logs.now nodes.now count links.now }
     ensures { result ≡ chosen_of context options logs.now nodes.now count }
 {
-    let mut k = 0;
+    let mut at = 0;
     let mut state = fresh(context);
-    let mut next = next_child(nodes, links, logs, options, count, k);
-    while next != 0 {
-        let n = node_at(nodes, next);
+    while let Some(child) = next_child(nodes, links, logs, options, count, at) {
+        let n = node_at(nodes, child);
         state = stepped(context, state, n.action);
-        k = next;
-        next = next_child(nodes, links, logs, options, count, k);
+        at = child;
     }
-    made(k, state)
+    Chosen { at, state }
 }

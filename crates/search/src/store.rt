@@ -2,8 +2,6 @@
 ghost use Rattle.std.specs.Prelude.{◌≡◌, ◌*◌, ◌<◌, length, slice_index};
 ghost use Rattle.action.specs.Known.{actions};
 ghost use Rattle.action_set.specs.Sets.{SetIn, size_of, nth_of};
-ghost use Rattle.craft_state.specs.Inside.{CraftIn};
-ghost use Rattle.rollout.specs.Rollout.{strict_moves};
 ghost use Rattle.tree.specs.Tree.{node_at};
 ghost use Rattle.search.specs.Iterate.{drawn_from, below_of};
 ghost use Rattle.search.specs.inner.Links.{linked, link_of};
@@ -14,6 +12,7 @@ use super::select::stepped;
 use action_set::bits;
 use craft_context::CraftContext;
 use craft_state::CraftState;
+use moves::Mode;
 use tree::{Node, node_at, put_node};
 
 fn without(n: Node, action: u8) -> Node
@@ -31,13 +30,6 @@ fn sampled(draws: &[u8], at: usize, unused: u32) -> u8
     ensures { (result ≡ nth_of unused (slice_index draws.now at)) × (result < actions) }
 {
     bits::nth(unused, draws[at])
-}
-
-fn strict_moves(context: CraftContext, state: CraftState) -> u32
-    requires { CraftIn context state }
-    ensures { result ≡ strict_moves context state }
-{
-    moves::strict_at_once(context, state)
 }
 
 // One record below record k, which loses the action.
@@ -77,16 +69,13 @@ pub fn store_path(
 {
     let mut end = k;
     let mut state = start;
-    let mut i = 0;
-    while i < stored {
+    for i in 0..stored {
         let n = node_at(nodes, end);
         let action = sampled(draws, at + i, n.unused);
         state = stepped(context, state, action);
-        let moves = strict_moves(context, state);
-        let new = count + i;
-        insert_below(nodes, links, new, end, action, moves);
-        end = new;
-        i += 1;
+        let moves = moves::moves_at_once(context, state, Mode::STRICT);
+        insert_below(nodes, links, count + i, end, action, moves);
+        end = count + i;
     }
     end
 }

@@ -1,10 +1,10 @@
 -- For the contracts of inner functions: what each step of an iteration asks, and what it answers.
 -- Assumes nothing.
-use Rattle.std.specs.Prelude.{◌≡◌, ℕ, zero, suc, ◌+◌, ◌-◌, ◌<◌, ◌≤◌, Bool, true, cond, ◌&&◌, List, [], ◌∷◌, length, drop, nat_le, nat_lt, Float}
+use Rattle.std.specs.Prelude.{◌≡◌, ℕ, zero, suc, ◌+◌, ◌-◌, ◌<◌, ◌≤◌, Bool, true, cond, ◌&&◌, List, [], ◌∷◌, length, drop, nat_le, Float, Result, Ok, Err}
 use Rattle.std.specs.Float.Ieee.{to_unsigned}
 use Rattle.refusal.specs.declared.Refusal.{Refusal}
 use Rattle.refusal.specs.declared.Refusal.TheVariants.{NoRoom}
-use Rattle.refusal.specs.declared.Checked.TheVariants as K
+use Rattle.refusal.specs.Judge.{Checked}
 use Rattle.action_set.specs.Sets.{size_of}
 use Rattle.craft_context.specs.declared.context.CraftContext.{CraftContext}
 use Rattle.craft_state.specs.declared.state.CraftState.{CraftState}
@@ -13,25 +13,22 @@ use Rattle.craft_state.specs.Start.{start_of}
 use Rattle.moves.specs.Modes.{plain}
 use Rattle.moves.specs.Moves.{moves_of}
 use Rattle.score.specs.declared.result.CraftResult.{CraftResult}
-use Rattle.rollout.specs.declared.rollout.Rolled.{Rolled}
-use Rattle.rollout.specs.declared.rollout.Rolled.TheVariants as L
-use Rattle.rollout.specs.Rollout.{rolled_from, sampled_of, drawn_state, strict_moves}
+use Rattle.rollout.specs.Rollout.{Rolled, rolled_from, sampled_of, drawn_state, strict_moves}
 use Rattle.tree.specs.declared.node.Node.{Node}
 use Rattle.tree.specs.Node.{plus_zero}
 use Rattle.tree.specs.Sound.{is_count}
 use Rattle.tree.specs.Tree.{node_at, back_of, planted_of}
 use Rattle.tree.specs.Refusals.{new_count}
-use Rattle.tree.specs.inner.Back.{is_passed}
 use Rattle.tree.specs.inner.Sound.{SoundTree}
 use Rattle.search.specs.declared.options.SearchOptions.{SearchOptions}
 use Rattle.search.specs.declared.select.Chosen.{Chosen}
 use Rattle.search.specs.declared.plan.Plan.{Plan}
 use Rattle.search.specs.declared.iterate.Turned.{Turned}
-use Rattle.search.specs.declared.grow.Grown.{Grown}
+use Rattle.search.specs.declared.entry.Progress.{Progress}
 use Rattle.search.specs.Options.{iterations_most}
 use Rattle.search.specs.Select.{ln_of, weights_of, select_of, state_at}
 use Rattle.search.specs.Iterate.{score_in, is_worth, stored_of, store_of, last_stored, Turn, Goes, Stops}
-use Rattle.search.specs.Search.{Outcome, grow_from}
+use Rattle.search.specs.Search.{Outcome, grow_from, progress_of}
 use Rattle.search.specs.inner.Asked.{Asked}
 use Rattle.search.specs.inner.Links.{Links}
 use Rattle.search.specs.inner.Newest.{FairChildren}
@@ -68,20 +65,17 @@ chosen_of c o logs nodes count = record { at = select_of o logs nodes count; sta
 
 -- ---- the plan of an iteration
 
-abbrev pub refused_plan : Refusal → Plan
-refused_plan x = record { checked = K.Refused x; stored = 0; score = plus_zero; at = 0 }
-
 abbrev pub passed_plan : CraftResult → ℕ → ℕ → Plan
-passed_plan result end stored = record { checked = K.Passed; stored = stored; score = score_in result; at = end }
+passed_plan result end stored = record { stored = stored; score = score_in result; at = end }
 
-abbrev pub plan_room : ℕ → ℕ → CraftResult → ℕ → ℕ → Plan
-plan_room count records result end stored = cond (nat_le (count + stored) records) (passed_plan result end stored) (refused_plan (NoRoom (count + stored)))
+abbrev pub plan_room : ℕ → ℕ → CraftResult → ℕ → ℕ → Result Plan Refusal
+plan_room count records result end stored = cond (nat_le (count + stored) records) (Ok (passed_plan result end stored)) (Err (NoRoom (count + stored)))
 
-abbrev pub plan_by : Float → Float → ℕ → ℕ → ℕ → Rolled → Plan
-plan_by threshold best count records at (L.Ended result end) = plan_room count records result end (stored_of (is_worth threshold best result) (end - at))
-plan_by threshold best count records at (L.Refused x) = refused_plan x
+abbrev pub plan_by : Float → Float → ℕ → ℕ → ℕ → Rolled → Result Plan Refusal
+plan_by threshold best count records at (Ok (result, end)) = plan_room count records result end (stored_of (is_worth threshold best result) (end - at))
+plan_by threshold best count records at (Err x) = Err x
 
-abbrev pub plan_of : CraftContext → Float → CraftState → ℕ → Float → ℕ → ℕ → ℕ → List ℕ → Plan
+abbrev pub plan_of : CraftContext → Float → CraftState → ℕ → Float → ℕ → ℕ → ℕ → List ℕ → Result Plan Refusal
 plan_of c threshold s unused best count records at draws = plan_by threshold best count records at (rolled_from c s unused at (drop at draws))
 
 -- ---- what it stores
@@ -120,25 +114,23 @@ pub record Carried (c : CraftContext) (s : CraftState) (nodes : List Node) (coun
 
 -- ---- an iteration
 
--- after a plan: one that was refused leaves the count and the place
-abbrev pub stopped_by : Plan → ℕ → ℕ → Turned
-stopped_by p count at = record { checked = p.checked; count = count; at = at }
-
-abbrev pub gone_by : Plan → ℕ → Turned
-gone_by p count = record { checked = K.Passed; count = count + p.stored; at = p.at }
-
-abbrev pub turned_of : ℕ → ℕ → Turn → Turned
-turned_of count at (Goes g) = record { checked = K.Passed; count = g.count; at = g.at }
-turned_of count at (Stops x) = record { checked = K.Refused x; count = count; at = at }
+-- one that is refused leaves the records and their index
+abbrev pub turned_of : Turn → Result Turned Refusal
+turned_of (Goes g) = Ok (record { count = g.count; at = g.at })
+turned_of (Stops x) = Err x
 
 abbrev pub records_after : List Node → Turn → List Node
 records_after nodes (Goes g) = g.nodes
 records_after nodes (Stops x) = nodes
 
-pub record Turns (nodes : List Node) (count at : ℕ) (turn : Turn) (r : Turned) (after : List Node) (index : List ℕ) : Type 0 where
-  pub answer : r ≡ turned_of count at turn
+abbrev pub count_after : ℕ → Turn → ℕ
+count_after count (Goes g) = g.count
+count_after count (Stops x) = count
+
+pub record Turns (nodes : List Node) (count : ℕ) (turn : Turn) (r : Result Turned Refusal) (after : List Node) (index : List ℕ) : Type 0 where
+  pub answer : r ≡ turned_of turn
   pub records : after ≡ records_after nodes turn
-  pub links : Links after r.count index
+  pub links : Links after (count_after count turn) index
 
 -- ---- the iterations
 
@@ -149,22 +141,16 @@ pub record Started (c : CraftContext) (o : SearchOptions) (logs : List Float) (n
   pub some : 0 < length before
   pub planted : nodes ≡ planted_of before (moves_of c (start_of c) plain)
 
-abbrev pub none_grown : Grown
-none_grown = record { checked = K.Passed; iterations = 0; count = new_count; at = 0 }
-
-abbrev pub going_of : Grown → SearchOptions → Bool
-going_of grown o = is_passed grown.checked && nat_lt grown.iterations o.iterations
-
-abbrev pub grown_by : Grown → Turned → Grown
-grown_by grown t = record { checked = t.checked; iterations = cond (is_passed t.checked) (grown.iterations + 1) grown.iterations; count = t.count; at = t.at }
-
-abbrev pub grown_answer : Outcome → Grown
-grown_answer z = record { checked = z.checked; iterations = z.iterations; count = z.growth.count; at = z.growth.at }
-
 -- what they come to
 abbrev pub outcome_from : CraftContext → SearchOptions → List Float → List ℕ → List Node → Outcome
 outcome_from c o logs draws nodes = grow_from c o logs draws o.iterations (record { nodes = nodes; count = new_count; at = 0 }) 0
 
-pub record GrowsTo (c : CraftContext) (o : SearchOptions) (logs : List Float) (draws : List ℕ) (nodes : List Node) (r : Grown) (after : List Node) : Type 0 where
-  pub answer : r ≡ grown_answer (outcome_from c o logs draws nodes)
+-- what was done, and what stopped it
+abbrev pub grown_by : Checked → Progress → Result Progress (Refusal × Progress)
+grown_by (Ok u) done = Ok done
+grown_by (Err x) done = Err (x, done)
+
+pub record GrowsTo (c : CraftContext) (o : SearchOptions) (logs : List Float) (draws : List ℕ) (nodes : List Node) (r : Result Progress (Refusal × Progress))
+    (after : List Node) : Type 0 where
+  pub answer : r ≡ grown_by (outcome_from c o logs draws nodes).checked (progress_of (outcome_from c o logs draws nodes))
   pub records : after ≡ (outcome_from c o logs draws nodes).growth.nodes

@@ -1,13 +1,11 @@
 -- THE theorems of the entry, of the statement by which it answers: what a search that found a path has left and answered, and what one that was refused has.
 -- Assumes nothing.
-use Rattle.std.specs.Prelude.{◌≡◌, ℕ, ◌<◌, ◌≤◌, true, ◌⊎◌, List, [], ◌∷◌, length, take, ◌≢◌, refl, Float}
-use Rattle.std.proofs.Common.{sym, subst, ◌∙◌, inl, inr, zero-add, arith, leb-true}
+use Rattle.std.specs.Prelude.{◌≡◌, ℕ, ◌<◌, ◌≤◌, true, ◌⊎◌, List, [], ◌∷◌, length, take, refl, Float, Ok, Err}
+use Rattle.std.proofs.Common.{sym, ap, subst, ◌∙◌, inl, inr, zero-add, arith, leb-true}
 use Rattle.laws.specs.Floats.{float}
 use Rattle.laws.specs.laws.Tests.{both}
 use Rattle.refusal.specs.declared.Refusal.{Refusal}
-use Rattle.refusal.specs.declared.Checked.{Checked}
-use Rattle.refusal.specs.declared.Checked.TheVariants.{Passed, Refused}
-use Rattle.refusal.specs.Judge.{Test, checks_of, room_test}
+use Rattle.refusal.specs.Judge.{Test, Checked, pass, checks_of, room_test}
 use Rattle.refusal.specs.laws.Judge.{judged_passed, judged_refused, shown, shown_by}
 use Rattle.text.specs.Over.{over}
 use Rattle.craft_context.specs.declared.context.CraftContext.{CraftContext}
@@ -23,20 +21,27 @@ use Rattle.tree.specs.laws.Tree.{of_tree}
 use Rattle.search.specs.declared.options.SearchOptions.{SearchOptions}
 use Rattle.search.specs.declared.entry.Progress.{Progress}
 use Rattle.search.specs.declared.entry.Found.{Found}
-use Rattle.search.specs.declared.entry.Searched.{Searched}
-use Rattle.search.specs.declared.entry.Searched.TheVariants as S
 use Rattle.search.specs.Options.{are_options, are_logs, search_test}
-use Rattle.search.specs.Search.{Outcome, grow_of, no_progress, progress_of, path_of, found_of, asked_tests, settled_by, path_tests, Searches}
+use Rattle.search.specs.Search.{Outcome, Searched, grow_of, no_progress, progress_of, path_of, found_of, asked_tests, settled_by, path_tests, Searches}
 use Rattle.search.specs.laws.Asked.{Asked, asked}
 use Rattle.search.specs.laws.Search.{search_ends, search_path, search_state, search_draws}
 use Rattle.search.specs.laws.Late.{Late, ChecksLate, search_late, path_late}
 
-never : {x : Refusal} {p q : Progress} {found : Found} → S.Found p found ≢ S.Refused x q
-never e = let z : ◌≡◌ {A = ℕ} 0 1 = cc in omega arith
+never : {x : Refusal} {p q : Progress} {found : Found} → ◌≡◌ {A = Searched} (Ok (p, found)) (Err (x, q)) → ⊥
+never e = cc
+
+-- an answer's parts
+found_same : {p q : Progress} {f g : Found} → ◌≡◌ {A = Searched} (Ok (p, f)) (Ok (q, g)) → (p ≡ q) × (f ≡ g)
+found_same {p} {q} {f} {g} e =
+    let same : ◌≡◌ {A = Progress × Found} (p, f) (q, g) = cc in
+    (ap (λ (x : Progress × Found). x.0) same, ap (λ (x : Progress × Found). x.1) same)
+
+refused_same : {x y : Refusal} {p q : Progress} → ◌≡◌ {A = Searched} (Err (x, p)) (Err (y, q)) → p ≡ q
+refused_same {x} {y} {p} {q} e = let same : ◌≡◌ {A = Refusal × Progress} (x, p) (y, q) = cc in ap (λ (x : Refusal × Progress). x.1) same
 
 -- what the first tests have shown
 pub tests_asked : (c : CraftContext) (o : SearchOptions) (logs : List Float) (nodes : List Node) → c.step_max ≤ step_most
-    → Passed ≡ checks_of (asked_tests nodes logs c o) → Asked c o logs × (0 < length nodes)
+    → pass ≡ checks_of (asked_tests nodes logs c o) → Asked c o logs × (0 < length nodes)
 tests_asked c o logs nodes byte e =
     let first = shown_by (context_tests c) (search_test logs o c.step_max ∷ room_test (length nodes) new_count ∷ []) e refl in
     let second = shown (search_test logs o c.step_max) (room_test (length nodes) new_count ∷ []) first.1 refl in
@@ -61,8 +66,8 @@ module _ (c : CraftContext) (o : SearchOptions) (logs : List Float) (draws : Lis
   -- refused before any work: nothing is written
   pub record Away (r : Searched) (after : List Node) (written : List ℕ) : Type 0 where
     pub refusal : Refusal
-    pub failed : Refused refusal ≡ checks_of tests
-    pub answer : r ≡ S.Refused refusal no_progress
+    pub failed : Err refusal ≡ checks_of tests
+    pub answer : r ≡ Err (refusal, no_progress)
     pub records : after ≡ nodes
     pub room : written ≡ out
 
@@ -70,20 +75,20 @@ module _ (c : CraftContext) (o : SearchOptions) (logs : List Float) (draws : Lis
   pub record Stopped (r : Searched) (after : List Node) (written : List ℕ) : Type 0 where
     pub refusal : Refusal
     pub late : Late refusal
-    pub passed : Passed ≡ checks_of tests
-    pub answer : r ≡ S.Refused refusal (progress_of grown)
+    pub passed : pass ≡ checks_of tests
+    pub answer : r ≡ Err (refusal, progress_of grown)
     pub records : after ≡ grown.growth.nodes
     pub room : written ≡ out
 
   pub record Whole (r : Searched) (after : List Node) (written : List ℕ) : Type 0 where
-    pub passed : Passed ≡ checks_of tests
-    pub done : grown.checked ≡ Passed
-    pub answer : r ≡ S.Found (progress_of grown) (found_of c grown)
+    pub passed : pass ≡ checks_of tests
+    pub done : grown.checked ≡ pass
+    pub answer : r ≡ Ok (progress_of grown, found_of c grown)
     pub records : after ≡ grown.growth.nodes
     pub room : written ≡ over out 0 (path_of grown)
 
   abbrev settled : List Test → Checked → Searched
-  settled room checked = settled_by (λ x. S.Refused x (progress_of grown)) (S.Found (progress_of grown) (found_of c grown)) room checked
+  settled room checked = settled_by (λ x. Err (x, progress_of grown)) (Ok (progress_of grown, found_of c grown)) room checked
 
   abbrev settled_room : List Test → Checked → List ℕ
   settled_room room checked = settled_by (λ x. out) (over out 0 (path_of grown)) room checked
@@ -95,11 +100,11 @@ module _ (c : CraftContext) (o : SearchOptions) (logs : List Float) (draws : Lis
         room : List Test
         room = path_tests grown (length out)
 
-        by_path : Passed ≡ checks_of tests → grown.checked ≡ Passed → r ≡ settled room Passed → written ≡ settled_room room Passed → after ≡ grown.growth.nodes
+        by_path : pass ≡ checks_of tests → grown.checked ≡ pass → r ≡ settled room pass → written ≡ settled_room room pass → after ≡ grown.growth.nodes
             → (k : Checked) → k ≡ checks_of room → Stopped r after written ⊎ Whole r after written
-        by_path p d a w n Passed e =
+        by_path p d a w n (Ok u) e =
             inr (record { passed = p; done = d; answer = a ∙ sym (judged_passed _ _ room e); records = n; room = w ∙ sym (judged_passed _ _ room e) })
-        by_path p d a w n (Refused x) e =
+        by_path p d a w n (Err x) e =
             inl (record {
               refusal = x;
               late = subst ChecksLate (sym e) (path_late grown (length out));
@@ -109,17 +114,17 @@ module _ (c : CraftContext) (o : SearchOptions) (logs : List Float) (draws : Lis
               room = w ∙ sym (judged_refused _ _ room e);
             })
 
-        by_turns : Passed ≡ checks_of tests → (k : Checked) → grown.checked ≡ k → r ≡ settled room k → written ≡ settled_room room k
+        by_turns : pass ≡ checks_of tests → (k : Checked) → grown.checked ≡ k → r ≡ settled room k → written ≡ settled_room room k
             → after ≡ grown.growth.nodes → Stopped r after written ⊎ Whole r after written
-        by_turns p Passed d a w n = by_path p d a w n (checks_of room) refl
-        by_turns p (Refused x) d a w n =
+        by_turns p (Ok u) d a w n = by_path p d a w n (checks_of room) refl
+        by_turns p (Err x) d a w n =
             inl (record { refusal = x; late = subst ChecksLate d (search_late c o logs draws nodes); passed = p; answer = a; records = n; room = w })
 
         asks : (k : Checked) → k ≡ checks_of tests → Away r after written ⊎ (Stopped r after written ⊎ Whole r after written)
-        asks Passed e =
+        asks (Ok u) e =
             inr (by_turns e grown.checked refl (s.same ∙ sym (judged_passed _ _ tests e)) (s.room ∙ sym (judged_passed _ _ tests e))
             (s.records ∙ sym (judged_passed _ _ tests e)))
-        asks (Refused x) e =
+        asks (Err x) e =
             inl (record {
               refusal = x;
               failed = e;
@@ -129,7 +134,7 @@ module _ (c : CraftContext) (o : SearchOptions) (logs : List Float) (draws : Lis
             })
 
   module _ (byte : c.step_max ≤ step_most) where
-    stands : Passed ≡ checks_of tests → Stand grown.growth.nodes (progress_of grown)
+    stands : pass ≡ checks_of tests → Stand grown.growth.nodes (progress_of grown)
     stands e =
         let a = tests_asked c o logs nodes byte e in
         let ends = search_ends c o logs a.0 draws nodes a.1 in
@@ -147,7 +152,7 @@ module _ (c : CraftContext) (o : SearchOptions) (logs : List Float) (draws : Lis
       pub whole : (replay_of c plain (solution_of after progress.records)).executed ≡ found.path
       pub state : (replay_of c plain (solution_of after progress.records)).state ≡ found.state
 
-    whole_right : {after : List Node} {written : List ℕ} → Passed ≡ checks_of tests → grown.checked ≡ Passed → after ≡ grown.growth.nodes
+    whole_right : {after : List Node} {written : List ℕ} → pass ≡ checks_of tests → grown.checked ≡ pass → after ≡ grown.growth.nodes
         → written ≡ over out 0 (path_of grown) → Right (progress_of grown) (found_of c grown) after written
     whole_right p d n w =
         let a = tests_asked c o logs nodes byte p in
@@ -162,39 +167,38 @@ module _ (c : CraftContext) (o : SearchOptions) (logs : List Float) (draws : Lis
         })
 
     module _ {after : List Node} {written : List ℕ} where
-      found_whole : {progress : Progress} {found : Found} → Away (S.Found progress found) after written
-          ⊎ (Stopped (S.Found progress found) after written ⊎ Whole (S.Found progress found) after written)
-          → Whole (S.Found progress found) after written
+      found_whole : {progress : Progress} {found : Found} → Away (Ok (progress, found)) after written
+          ⊎ (Stopped (Ok (progress, found)) after written ⊎ Whole (Ok (progress, found)) after written)
+          → Whole (Ok (progress, found)) after written
       found_whole (inl a) = absurd (never a.answer)
       found_whole (inr (inl a)) = absurd (never a.answer)
       found_whole (inr (inr a)) = a
 
-      pub found_right : {progress : Progress} {found : Found} → Searches c o logs draws nodes out (S.Found progress found) after written
+      pub found_right : {progress : Progress} {found : Found} → Searches c o logs draws nodes out (Ok (progress, found)) after written
           → Right progress found after written
       found_right {progress} {found} s =
           let a = found_whole (ways s) in
-          let same : progress ≡ progress_of grown = cc a.answer in
-          let there : found ≡ found_of c grown = cc a.answer in
-          rw (same, there) (whole_right a.passed a.done a.records a.room)
+          let same = found_same a.answer in
+          rw (same.0, same.1) (whole_right a.passed a.done a.records a.room)
 
       -- and it is the same with other draws after those used
-      pub found_draws : (others : List ℕ) {progress : Progress} {found : Found} → Searches c o logs draws nodes out (S.Found progress found) after written
-          → take progress.draws others ≡ take progress.draws draws → Searches c o logs others nodes out (S.Found progress found) after written
+      pub found_draws : (others : List ℕ) {progress : Progress} {found : Found} → Searches c o logs draws nodes out (Ok (progress, found)) after written
+          → take progress.draws others ≡ take progress.draws draws → Searches c o logs others nodes out (Ok (progress, found)) after written
       found_draws others {progress} s agree =
           let a = found_whole (ways s) in
-          let used : progress ≡ progress_of grown = cc a.answer in
+          let used : progress ≡ progress_of grown = (found_same a.answer).0 in
           let t = tests_asked c o logs nodes byte a.passed in
           let same : grow_of c o logs others nodes ≡ grown = search_draws c o logs t.0 draws others nodes t.1 a.done (rw used at agree) in
           record { number = rw same s.number; same = rw same s.same; records = rw same s.records; room = rw same s.room }
 
       -- ---- one that was refused: no path is written, and nothing at all or the iterations before stand
 
-      pub refused_stands : {x : Refusal} {progress : Progress} → Searches c o logs draws nodes out (S.Refused x progress) after written
+      pub refused_stands : {x : Refusal} {progress : Progress} → Searches c o logs draws nodes out (Err (x, progress)) after written
           → (written ≡ out) × (((progress ≡ no_progress) × (after ≡ nodes)) ⊎ Stand after progress)
       refused_stands {x} {progress} s = go (ways s)
         where
-          go : Away (S.Refused x progress) after written ⊎ (Stopped (S.Refused x progress) after written ⊎ Whole (S.Refused x progress) after written)
+          go : Away (Err (x, progress)) after written ⊎ (Stopped (Err (x, progress)) after written ⊎ Whole (Err (x, progress)) after written)
               → (written ≡ out) × (((progress ≡ no_progress) × (after ≡ nodes)) ⊎ Stand after progress)
-          go (inl a) = (a.room, inl (cc a.answer, a.records))
-          go (inr (inl a)) = let same : progress ≡ progress_of grown = cc a.answer in (a.room, inr (rw (same, a.records) (stands a.passed)))
+          go (inl a) = (a.room, inl (refused_same a.answer, a.records))
+          go (inr (inl a)) = let same : progress ≡ progress_of grown = refused_same a.answer in (a.room, inr (rw (same, a.records) (stands a.passed)))
           go (inr (inr a)) = absurd (never (sym a.answer))

@@ -1,11 +1,9 @@
 -- The entry's statement has one answer, and by which numbers it refuses: 1, 21 and 6 with nothing written, and then 6, 19 and 20 with no path written.
 -- Assumes nothing.
-use Rattle.std.specs.Prelude.{◌≡◌, ℕ, ◌⊎◌, List, [], ◌∷◌, length, ◌≢◌, refl, Float}
+use Rattle.std.specs.Prelude.{◌≡◌, ℕ, ◌⊎◌, List, [], ◌∷◌, length, ◌≢◌, refl, Float, Ok, Err}
 use Rattle.std.proofs.Common.{sym, ap, subst, ◌∙◌, inl, inr, arith}
 use Rattle.refusal.specs.declared.Refusal.{Refusal}
-use Rattle.refusal.specs.declared.Checked.{Checked}
-use Rattle.refusal.specs.declared.Checked.TheVariants.{Passed, Refused}
-use Rattle.refusal.specs.Judge.{Test, checks_of, room_test}
+use Rattle.refusal.specs.Judge.{Test, Checked, pass, checks_of, room_test}
 use Rattle.refusal.specs.Demands.{number_of, Among, TellsPlace}
 use Rattle.refusal.specs.laws.Judge.{stops, checks, checks_on_by}
 use Rattle.refusal.specs.laws.Demands.{number_among}
@@ -15,10 +13,8 @@ use Rattle.craft_context.specs.Limits.{context_limits, context_tests}
 use Rattle.tree.specs.declared.node.Node.{Node}
 use Rattle.tree.specs.Refusals.{new_count}
 use Rattle.search.specs.declared.options.SearchOptions.{SearchOptions}
-use Rattle.search.specs.declared.entry.Searched.{Searched}
-use Rattle.search.specs.declared.entry.Searched.TheVariants as S
 use Rattle.search.specs.Options.{search_test}
-use Rattle.search.specs.Search.{no_progress, asked_tests, searched_told, Searches}
+use Rattle.search.specs.Search.{no_progress, asked_tests, Searched, searched_told, Searches}
 use Rattle.search.specs.Demands.{OneOutcomes, RefusesInPart, TellsFirstBesides}
 use Rattle.search.specs.laws.Answer.{Away, Stopped, Whole, ways}
 
@@ -30,7 +26,7 @@ first_among (inr (inr (inl e))) = inr (inr (inl e))
 first_among (inr (inr (inr e))) = inr (inr (inr (inr (inr e))))
 
 first_number : (c : CraftContext) (o : SearchOptions) (logs : List Float) (nodes : List Node) {x : Refusal}
-    → Refused x ≡ checks_of (asked_tests nodes logs c o) → Among (1 ∷ 21 ∷ 6 ∷ []) (number_of x)
+    → Err x ≡ checks_of (asked_tests nodes logs c o) → Among (1 ∷ 21 ∷ 6 ∷ []) (number_of x)
 first_number c o logs nodes e = number_among (checks (asked_tests nodes logs c o) e)
 
 module _ {c : CraftContext} {o : SearchOptions} {logs : List Float} {draws : List ℕ} {nodes : List Node} {out : List ℕ} where
@@ -47,7 +43,7 @@ module _ {c : CraftContext} {o : SearchOptions} {logs : List Float} {draws : Lis
       go : Away c o logs draws nodes out r after written ⊎ (Stopped c o logs draws nodes out r after written ⊎ Whole c o logs draws nodes out r after written)
           → Among (1 ∷ 21 ∷ 6 ∷ 19 ∷ 20 ∷ []) (searched_told r).0
           × (((searched_told r).0 ≢ 0) → written ≡ out)
-          × ((Passed ≢ checks_of (asked_tests nodes logs c o)) → after ≡ nodes)
+          × ((pass ≢ checks_of (asked_tests nodes logs c o)) → after ≡ nodes)
           × (Among (6 ∷ 19 ∷ 20 ∷ []) (searched_told r).0 ⊎ (after ≡ nodes))
       go (inl a) =
           let is : Among (1 ∷ 21 ∷ 6 ∷ 19 ∷ 20 ∷ []) (searched_told r).0 = subst (Among (1 ∷ 21 ∷ 6 ∷ 19 ∷ 20 ∷ [])) (number a.answer) (first_among (first_number c o logs nodes a.failed)) in
@@ -61,13 +57,13 @@ module _ {c : CraftContext} {o : SearchOptions} {logs : List Float} {draws : Lis
 
 -- ---- a context inside its limits is never refused by 1
 
-inside_first : (c : CraftContext) (o : SearchOptions) (logs : List Float) (nodes : List Node) {x : Refusal} → Passed ≡ checks_of (context_tests c)
-    → Refused x ≡ checks_of (asked_tests nodes logs c o) → Among (21 ∷ 6 ∷ []) (number_of x)
+inside_first : (c : CraftContext) (o : SearchOptions) (logs : List Float) (nodes : List Node) {x : Refusal} → pass ≡ checks_of (context_tests c)
+    → Err x ≡ checks_of (asked_tests nodes logs c o) → Among (21 ∷ 6 ∷ []) (number_of x)
 inside_first c o logs nodes p e =
     let rest = search_test logs o c.step_max ∷ room_test (length nodes) new_count ∷ [] in
     number_among (checks rest (e ∙ sym (checks_on_by (context_tests c) rest p refl refl)))
 
-pub inside_number : (c : CraftContext) (o : SearchOptions) (logs : List Float) (draws : List ℕ) (nodes : List Node) (out : List ℕ) → Passed ≡ checks_of (context_tests c)
+pub inside_number : (c : CraftContext) (o : SearchOptions) (logs : List Float) (draws : List ℕ) (nodes : List Node) (out : List ℕ) → pass ≡ checks_of (context_tests c)
     → {r : Searched} {after : List Node} {written : List ℕ} → Searches c o logs draws nodes out r after written → Among (21 ∷ 6 ∷ 19 ∷ 20 ∷ []) (searched_told r).0
 inside_number c o logs draws nodes out p {r} {after} {written} s = go (ways c o logs draws nodes out s)
   where
@@ -92,7 +88,7 @@ never_1 (inr (inr (inl e))) one = omega arith
 never_1 (inr (inr (inr (inl e)))) one = omega arith
 never_1 (inr (inr (inr (inr e)))) one = omega arith
 
-pub inside_not_1 : (c : CraftContext) (o : SearchOptions) (logs : List Float) (draws : List ℕ) (nodes : List Node) (out : List ℕ) → Passed ≡ checks_of (context_tests c)
+pub inside_not_1 : (c : CraftContext) (o : SearchOptions) (logs : List Float) (draws : List ℕ) (nodes : List Node) (out : List ℕ) → pass ≡ checks_of (context_tests c)
     → {r : Searched} {after : List Node} {written : List ℕ} → Searches c o logs draws nodes out r after written → (searched_told r).0 ≢ 1
 inside_not_1 c o logs draws nodes out p s one = never_1 (inside_number c o logs draws nodes out p s) one
 
@@ -105,6 +101,6 @@ search_first c o logs draws nodes out after written r s one = by (checks_of (con
     rest = search_test logs o c.step_max ∷ room_test (length nodes) new_count ∷ []
 
     by : (k : Checked) → k ≡ checks_of (context_tests c) → TellsPlace (context_limits c) (searched_told r)
-    by Passed e = absurd (inside_not_1 c o logs draws nodes out e s one)
-    by (Refused x) e =
-        outside_told (context_limits c) e (s.number ∙ sym (ap searched_told (stops (λ y. S.Refused y no_progress) _ rest (context_tests c) e)))
+    by (Ok u) e = absurd (inside_not_1 c o logs draws nodes out e s one)
+    by (Err x) e =
+        outside_told (context_limits c) e (s.number ∙ sym (ap searched_told (stops (λ y. Err (y, no_progress)) _ rest (context_tests c) e)))

@@ -1,36 +1,34 @@
 -- The ways out of the entry, as its code takes them: refused by the first tests, stopped by an iteration, refused the path's room, or a path that was found. Each
 -- answers by the statement.
 -- Assumes nothing.
-use Rattle.std.specs.Prelude.{◌≡◌, ℕ, ◌<◌, ◌≤◌, Bool, true, false, cond, leb, List, length, take, nat_le, Float}
+use Rattle.std.specs.Prelude.{◌≡◌, ℕ, ◌<◌, ◌≤◌, Bool, true, false, cond, List, length, take, nat_le, Float, Result, Ok, Err}
 use Rattle.std.proofs.Math.Path.{refl}
 use Rattle.std.proofs.Common.{sym, ap, subst, ◌∙◌, zero-add, leb-true}
-use Rattle.laws.specs.laws.Tests.{true_false}
+use Rattle.refusal.specs.declared.Refusal.{Refusal}
 use Rattle.refusal.specs.declared.Refusal.TheVariants.{NoRoom}
-use Rattle.refusal.specs.declared.Checked.{Checked}
-use Rattle.refusal.specs.declared.Checked.TheVariants.{Passed, Refused}
-use Rattle.refusal.specs.Judge.{Test, judged, checks_of}
+use Rattle.refusal.specs.Judge.{Test, Checked, pass, judged, checks_of}
 use Rattle.refusal.specs.laws.Judge.{judged_passed, judged_refused}
 use Rattle.text.specs.Over.{over}
 use Rattle.text.specs.laws.Over.{length_over, take_put}
+use Rattle.action.specs.Known.{known_front}
 use Rattle.craft_context.specs.declared.context.CraftContext.{CraftContext}
+use Rattle.craft_context.specs.Limits.{ContextIn}
+use Rattle.craft_state.specs.declared.state.CraftState.{CraftState}
 use Rattle.craft_state.specs.Limits.{step_most}
 use Rattle.craft_state.specs.Start.{start_of}
 use Rattle.moves.specs.Modes.{plain}
 use Rattle.moves.specs.Moves.{moves_of}
+use Rattle.simulator.specs.Replay.{replay_of}
 use Rattle.tree.specs.declared.node.Node.{Node}
-use Rattle.tree.specs.declared.paths.Solved.{Solved}
-use Rattle.tree.specs.declared.paths.Solved.TheVariants as P
 use Rattle.tree.specs.Paths.{Solves}
 use Rattle.tree.specs.Tree.{planted_of, is_sound, end_of}
 use Rattle.tree.specs.laws.Tree.{of_tree}
 use Rattle.search.specs.declared.options.SearchOptions.{SearchOptions}
-use Rattle.search.specs.declared.grow.Grown.{Grown}
-use Rattle.search.specs.declared.entry.Searched.{Searched}
-use Rattle.search.specs.declared.entry.Searched.TheVariants as S
-use Rattle.search.specs.Search.{Outcome, grow_of, no_progress, progress_of, path_of, found_of, asked_tests, settled_by, path_tests, searched_told, searched_of, Searches}
+use Rattle.search.specs.declared.entry.Progress.{Progress}
+use Rattle.search.specs.declared.entry.Found.{Found}
+use Rattle.search.specs.Search.{Outcome, grow_of, no_progress, progress_of, path_of, found_of, asked_tests, settled_by, path_tests, Searched, searched_told, searched_of, Searches}
 use Rattle.search.specs.inner.Grown.{Growing}
-use Rattle.search.specs.inner.Ready.{Started, grown_answer, GrowsTo}
-use Rattle.search.specs.inner.Entry.{so_far, is_found, progress_by, Replays, path_found}
+use Rattle.search.specs.inner.Ready.{Started, grown_by, GrowsTo}
 use Rattle.search.specs.laws.Path.{path_known}
 use Rattle.search.specs.laws.Search.{search_ends, search_state}
 use Rattle.search.specs.laws.Answer.{tests_asked}
@@ -54,26 +52,13 @@ module _ (c : CraftContext) (o : SearchOptions) (logs : List Float) (draws : Lis
 
   -- ---- the first tests
 
-  module _ {first : Searched} (e : first ≡ so_far c (checks_of tests) no_progress) where
-    pub entry_refused : is_found first ≡ false → Searches c o logs draws nodes out first nodes out
-    entry_refused fell = go (checks_of tests) refl (ap is_found (sym e) ∙ fell)
-      where
-        go : (k : Checked) → checks_of tests ≡ k → is_found (so_far c k no_progress) ≡ false → Searches c o logs draws nodes out first nodes out
-        go Passed q f = absurd (true_false f)
-        go (Refused x) q f =
-            answers (e ∙ ap (λ (k : Checked). so_far c k no_progress) q ∙ judged_refused (λ x. S.Refused x no_progress) _ tests (sym q))
-            (judged_refused (λ x. nodes) _ tests (sym q)) (judged_refused (λ x. out) _ tests (sym q))
-
-    pub entry_asked : is_found first ≡ true → Passed ≡ checks_of tests
-    entry_asked held = go (checks_of tests) (ap is_found (sym e) ∙ held)
-      where
-        go : (k : Checked) → is_found (so_far c k no_progress) ≡ true → Passed ≡ k
-        go Passed f = refl
-        go (Refused x) f = absurd (true_false (sym f))
+  pub entry_refused : {x : Refusal} → Err x ≡ checks_of tests → Searches c o logs draws nodes out (Err (x, no_progress)) nodes out
+  entry_refused q =
+      answers (judged_refused (λ x. Err (x, no_progress)) _ tests q) (judged_refused (λ x. nodes) _ tests q) (judged_refused (λ x. out) _ tests q)
 
   -- ---- the iterations
 
-  module _ (byte : c.step_max ≤ step_most) (p : Passed ≡ checks_of tests) where
+  module _ (byte : c.step_max ≤ step_most) (p : pass ≡ checks_of tests) where
     pub entry_some : 0 < length nodes
     entry_some = (tests_asked c o logs nodes byte p).1
 
@@ -85,99 +70,114 @@ module _ (c : CraftContext) (o : SearchOptions) (logs : List Float) (draws : Lis
 
     -- what is answered and left where no test failed
     settles : {r : Searched} {written : List ℕ}
-        → r ≡ settled_by (λ x. S.Refused x (progress_of grown_to)) (S.Found (progress_of grown_to) (found_of c grown_to)) (path_tests grown_to (length out))
-        grown_to.checked
+        → r ≡ settled_by (λ x. Err (x, progress_of grown_to)) (Ok (progress_of grown_to, found_of c grown_to)) (path_tests grown_to (length out)) grown_to.checked
         → written ≡ settled_by (λ x. out) (over out 0 (path_of grown_to)) (path_tests grown_to (length out)) grown_to.checked
         → Searches c o logs draws nodes out r grown_to.growth.nodes written
     settles e f = answers (e ∙ judged_passed _ _ tests p) (judged_passed _ _ tests p) (f ∙ judged_passed _ _ tests p)
 
-    -- ---- the path, by the room for it
-
-    abbrev path : List ℕ
-    path = path_of grown_to
-
-    abbrev solved_by : Bool → Solved
-    solved_by b = cond b (P.Solution (length path) (end_of grown_to.growth.nodes grown_to.growth.count)) (P.Refused (NoRoom (length path)))
-
-    abbrev written_by : Bool → List ℕ
-    written_by b = cond b (over out 0 path) out
-
-    abbrev Room : Bool → Type 0
-    Room b = nat_le (length path) (length out) ≡ b
-
-    module _ {solved : Solved} {written : List ℕ} (w : Solves grown_to.growth.nodes grown_to.growth.count out solved written) where
-      sound : is_sound grown_to.growth.nodes grown_to.growth.count ≡ true
-      sound = of_tree growing.tree
-
-      solved_is : solved ≡ solved_by (nat_le (length path) (length out))
-      unfolding judged
-      solved_is = w.says.same ∙ rw sound
-
-      written_is : written ≡ written_by (nat_le (length path) (length out))
-      unfolding judged
-      written_is = w.room ∙ rw sound
-
-      -- where it has room, it is read back from there
-      back : leb (length path) (length out) ≡ true → take (length path) (over out 0 path) ≡ path
-      back f = take_put (record { next = sym (zero-add (length path)); same = refl }) (leb-true _ _ f)
-
-      replays : Replays c solved written
-      replays = rw (solved_is, written_is) (go (nat_le (length path) (length out)) refl)
-        where
-          go : (b : Bool) → Room b → Replays c (solved_by b) (written_by b)
-          go true f = (
-            (tests_asked c o logs nodes byte p).0.context,
-            rw length_over (leb-true _ _ f),
-            rw (back f) (path_known c grown_to.growth.nodes grown_to.growth.count growing),
-          )
-          go false f = tt
-
-      found : grown_to.checked ≡ Passed → {r : Searched} → r ≡ path_found c (progress_of grown_to) solved written
-          → Searches c o logs draws nodes out r grown_to.growth.nodes written
-      unfolding judged
-      found d {r} e = go (nat_le (length path) (length out)) refl (rw (solved_is, written_is) at e) written_is
-        where
-          go : (b : Bool) → Room b → r ≡ path_found c (progress_of grown_to) (solved_by b) (written_by b) → written ≡ written_by b
-              → Searches c o logs draws nodes out r grown_to.growth.nodes written
-          go true f a v =
-              let there = tests_asked c o logs nodes byte p in
-              settles (a ∙ rw (d, f, back f, search_state c o logs there.0 draws nodes there.1)) (v ∙ rw (d, f))
-          go false f a v = settles (a ∙ rw (d, f)) (v ∙ rw (d, f))
-
-    module _ {start : List Node} (s : start ≡ planted) {grown : Grown} {after : List Node} (g : GrowsTo c o logs draws start grown after) where
-      grown_is : grown ≡ grown_answer grown_to
-      grown_is = g.answer ∙ rw s
-
+    module _ {start : List Node} (s : start ≡ planted) {grown : Result Progress (Refusal × Progress)} {after : List Node}
+        (g : GrowsTo c o logs draws start grown after) where
       after_is : after ≡ grown_to.growth.nodes
       after_is = g.records ∙ rw s
 
-      module _ {last : Searched} (e : last ≡ so_far c grown.checked (progress_by grown)) where
-        last_is : last ≡ so_far c grown_to.checked (progress_of grown_to)
-        last_is = e ∙ rw grown_is
+      grown_is : grown ≡ grown_by grown_to.checked (progress_of grown_to)
+      grown_is = g.answer ∙ rw s
 
-        pub entry_stopped : is_found last ≡ false → Searches c o logs draws nodes out last after out
-        entry_stopped fell = rw after_is (go grown_to.checked refl (ap is_found (sym last_is) ∙ fell))
+      -- an iteration was refused
+      pub entry_stopped : {e : Refusal × Progress} → grown ≡ Err e → Searches c o logs draws nodes out (Err e) after out
+      entry_stopped {e} is = rw after_is (go grown_to.checked refl (sym grown_is ∙ is))
+        where
+          go : (k : Checked) → grown_to.checked ≡ k → ◌≡◌ {A = Result Progress (Refusal × Progress)} (grown_by k (progress_of grown_to)) (Err e)
+              → Searches c o logs draws nodes out (Err e) grown_to.growth.nodes out
+          go (Ok u) q f = cc
+          go (Err x) q f = let same : ◌≡◌ {A = Refusal × Progress} (x, progress_of grown_to) e = cc in settles (rw (q, ← same) refl) (rw q refl)
+
+      -- all were done
+      module _ {done : Progress} (is : grown ≡ Ok done) where
+        record Done : Type 0 where
+          checked : grown_to.checked ≡ pass
+          progress : done ≡ progress_of grown_to
+
+        all_done : Done
+        all_done = go grown_to.checked refl (sym grown_is ∙ is)
           where
-            go : (k : Checked) → grown_to.checked ≡ k → is_found (so_far c k (progress_of grown_to)) ≡ false
-                → Searches c o logs draws nodes out last grown_to.growth.nodes out
-            go Passed q f = absurd (true_false f)
-            go (Refused x) q f = settles (last_is ∙ rw q) (rw q)
+            go : (k : Checked) → grown_to.checked ≡ k → ◌≡◌ {A = Result Progress (Refusal × Progress)} (grown_by k (progress_of grown_to)) (Ok done) → Done
+            go (Ok u) q f = let same : progress_of grown_to ≡ done = cc in record { checked = q; progress = sym same }
+            go (Err x) q f = cc
 
-        pub entry_done : is_found last ≡ true → grown_to.checked ≡ Passed
-        entry_done held = go grown_to.checked (ap is_found (sym last_is) ∙ held)
-          where
-            go : (k : Checked) → is_found (so_far c k (progress_of grown_to)) ≡ true → k ≡ Passed
-            go Passed f = refl
-            go (Refused x) f = absurd (true_false (sym f))
+        -- ---- the path, by the room for it
 
-      module _ {solved : Solved} {written : List ℕ} (w : Solves after grown.count out solved written) where
-        there : Solves grown_to.growth.nodes grown_to.growth.count out solved written
-        there = subst (λ (n : ℕ). Solves grown_to.growth.nodes n out solved written) (ap (λ (x : Grown). x.count) grown_is)
-            (subst (λ (xs : List Node). Solves xs grown.count out solved written) after_is w)
+        abbrev path : List ℕ
+        path = path_of grown_to
 
-        pub entry_replays : Replays c solved written
-        entry_replays = replays there
+        abbrev solved_by : Bool → Result (ℕ × ℕ) Refusal
+        solved_by b = cond b (Ok (length path, end_of grown_to.growth.nodes grown_to.growth.count)) (Err (NoRoom (length path)))
 
-        pub entry_found : grown_to.checked ≡ Passed → {r : Searched} → r ≡ path_found c (progress_by grown) solved written
-            → Searches c o logs draws nodes out r after written
-        entry_found d e = rw after_is (found there d (e ∙ rw grown_is))
+        abbrev written_by : Bool → List ℕ
+        written_by b = cond b (over out 0 path) out
+
+        abbrev roomy : Bool
+        roomy = nat_le (length path) (length out)
+
+        module _ {solved : Result (ℕ × ℕ) Refusal} {written : List ℕ} (w : Solves after done.records out solved written) where
+          there : Solves grown_to.growth.nodes grown_to.growth.count out solved written
+          there = subst (λ (n : ℕ). Solves grown_to.growth.nodes n out solved written) (ap (λ (x : Progress). x.records) all_done.progress)
+              (subst (λ (xs : List Node). Solves xs done.records out solved written) after_is w)
+
+          sound : is_sound grown_to.growth.nodes grown_to.growth.count ≡ true
+          sound = of_tree growing.tree
+
+          solved_is : solved ≡ solved_by roomy
+          unfolding judged
+          solved_is = there.says.same ∙ rw sound
+
+          written_is : written ≡ written_by roomy
+          unfolding judged
+          written_is = there.room ∙ rw sound
+
+          -- where it has no room
+          pub entry_short : {x : Refusal} → solved ≡ Err x → Searches c o logs draws nodes out (Err (x, done)) after written
+          unfolding judged
+          entry_short {x} q = rw (after_is, all_done.progress) (go roomy refl (sym solved_is ∙ q) written_is)
+            where
+              go : (b : Bool) → roomy ≡ b → solved_by b ≡ Err x → written ≡ written_by b
+                  → Searches c o logs draws nodes out (Err (x, progress_of grown_to)) grown_to.growth.nodes written
+              go true f e v = cc
+              go false f e v = let same : NoRoom (length path) ≡ x = cc in settles (rw (all_done.checked, f, ← same) refl) (v ∙ rw (all_done.checked, f))
+
+          -- where it has, it is read back from there
+          module _ {len last : ℕ} (q : solved ≡ Ok (len, last)) where
+            record Fits : Type 0 where
+              room : roomy ≡ true
+              len_is : len ≡ length path
+              last_is : last ≡ end_of grown_to.growth.nodes grown_to.growth.count
+
+            fits : Fits
+            fits = go roomy refl (sym solved_is ∙ q)
+              where
+                go : (b : Bool) → roomy ≡ b → solved_by b ≡ Ok (len, last) → Fits
+                go true f e =
+                    let same : ◌≡◌ {A = ℕ × ℕ} (length path, end_of grown_to.growth.nodes grown_to.growth.count) (len, last) = cc in
+                    record { room = f; len_is = sym (ap (λ (p : ℕ × ℕ). p.0) same); last_is = sym (ap (λ (p : ℕ × ℕ). p.1) same) }
+                go false f e = cc
+
+            written_path : written ≡ over out 0 path
+            written_path = written_is ∙ rw fits.room
+
+            pub entry_inside : len ≤ length written
+            entry_inside = rw (fits.len_is, written_path, length_over) (leb-true _ _ fits.room)
+
+            back : take len written ≡ path
+            back = rw (fits.len_is, written_path) (take_put (record { next = sym (zero-add (length path)); same = refl }) (leb-true _ _ fits.room))
+
+            pub entry_known : ContextIn c × (length (take len written) ≤ known_front (take len written))
+            entry_known =
+                ((tests_asked c o logs nodes byte p).0.context, rw back (path_known c grown_to.growth.nodes grown_to.growth.count growing))
+
+            pub entry_found : {state : CraftState} → state ≡ (replay_of c plain (take len written)).state
+                → Searches c o logs draws nodes out (Ok (done, record { path = len; last = last; state = state })) after written
+            unfolding judged
+            entry_found {state} e =
+                let asked = tests_asked c o logs nodes byte p in
+                rw (after_is, all_done.progress, fits.len_is, fits.last_is, e, back, search_state c o logs asked.0 draws nodes asked.1)
+                (settles (rw (all_done.checked, fits.room) refl) (written_path ∙ rw (all_done.checked, fits.room)))

@@ -1,12 +1,13 @@
 -- Each draw that is told as used was used: with fewer of them the iteration that wants the next is refused by 19. With `search_draws`, that more change nothing,
 -- the number told is the one that the definition consumes.
 -- Assumes nothing.
-use Rattle.std.specs.Prelude.{◌≡◌, ℕ, zero, suc, ◌+◌, ◌-◌, ◌<◌, ◌≤◌, Bool, true, false, List, length, take, drop, nat_lt, Float}
+use Rattle.std.specs.Prelude.{◌≡◌, ℕ, zero, suc, ◌+◌, ◌-◌, ◌<◌, ◌≤◌, Bool, true, false, List, length, take, drop, nat_lt, Float, Err}
 use Rattle.std.proofs.Math.Path.{refl, ap}
 use Rattle.std.proofs.Common.{sym, ◌∙◌, take-take, ltb-true, ltb-false}
 use native.Mathlib.Omega.{arith}
 use Rattle.refusal.specs.declared.Refusal.TheVariants.{NoDraw}
-use Rattle.refusal.specs.declared.Checked.TheVariants as K
+use Rattle.refusal.specs.Judge.{pass}
+use Rattle.refusal.specs.laws.Judge.{refused_passed}
 use Rattle.craft_context.specs.declared.context.CraftContext.{CraftContext}
 use Rattle.rollout.specs.Rollout.{rolled_from}
 use Rattle.rollout.specs.laws.RolledSampled.{rolled}
@@ -17,7 +18,7 @@ use Rattle.search.specs.Iterate.{Growth, Turn, Goes, Stops, selected_state, unus
 use Rattle.search.specs.Search.{Outcome, on_turn, grow_from, start_growth, grow_of}
 use Rattle.search.specs.laws.Asked.{Asked}
 use Rattle.search.specs.laws.Iterate.{Grows, accepted, drop_take, iterate_draws, iterate_grows}
-use Rattle.search.specs.laws.Search.{refused_never, start_grows}
+use Rattle.search.specs.laws.Search.{start_grows}
 
 module _ (c : CraftContext) (o : SearchOptions) (logs : List Float) (draws : List ℕ) where
   pub iterate_fewer : (g : Growth) {next : Growth} → iterate_of c o logs draws g ≡ Goes next → (n : ℕ) → g.at ≤ n → n < next.at
@@ -35,25 +36,25 @@ module _ (c : CraftContext) (o : SearchOptions) (logs : List Float) (draws : Lis
       ap (turn_by c o logs (take n draws) g) (ap (rolled_from c s unused g.at) left ∙ r.fewer (n - g.at) (omega (arith, ends)))
 
   module _ (asked : Asked c o logs) where
-    grow_fewer : (left : ℕ) (g : Growth) (done : ℕ) → Grows c g done → done + left ≤ iterations_most → (grow_from c o logs draws left g done).checked ≡ K.Passed
+    grow_fewer : (left : ℕ) (g : Growth) (done : ℕ) → Grows c g done → done + left ≤ iterations_most → (grow_from c o logs draws left g done).checked ≡ pass
         → (n : ℕ) → g.at ≤ n → n < (grow_from c o logs draws left g done).growth.at
-        → (grow_from c o logs (take n draws) left g done).checked ≡ K.Refused NoDraw
+        → (grow_from c o logs (take n draws) left g done).checked ≡ Err NoDraw
     unfolding grow_from
     grow_fewer zero g done grows few passed n from below = absurd (omega arith)
     grow_fewer (suc left) g done grows few passed n from below = go (iterate_of c o logs draws g) refl passed below (grow_fewer left)
       where
         turned : List ℕ → Turn → Outcome
-        turned ds t = on_turn (λ next. grow_from c o logs ds left next (done + 1)) (λ x. record { growth = g; iterations = done; checked = K.Refused x }) t
+        turned ds t = on_turn (λ next. grow_from c o logs ds left next (done + 1)) (λ x. record { growth = g; iterations = done; checked = Err x }) t
 
-        go : (t : Turn) → iterate_of c o logs draws g ≡ t → (turned draws t).checked ≡ K.Passed → n < (turned draws t).growth.at
-            → ((next : Growth) (done : ℕ) → Grows c next done → done + left ≤ iterations_most → (grow_from c o logs draws left next done).checked ≡ K.Passed
+        go : (t : Turn) → iterate_of c o logs draws g ≡ t → (turned draws t).checked ≡ pass → n < (turned draws t).growth.at
+            → ((next : Growth) (done : ℕ) → Grows c next done → done + left ≤ iterations_most → (grow_from c o logs draws left next done).checked ≡ pass
             → (n : ℕ) → next.at ≤ n → n < (grow_from c o logs draws left next done).growth.at
-            → (grow_from c o logs (take n draws) left next done).checked ≡ K.Refused NoDraw)
-            → (turned (take n draws) (iterate_of c o logs (take n draws) g)).checked ≡ K.Refused NoDraw
-        go (Stops x) e passed below rest = absurd (refused_never passed)
+            → (grow_from c o logs (take n draws) left next done).checked ≡ Err NoDraw)
+            → (turned (take n draws) (iterate_of c o logs (take n draws) g)).checked ≡ Err NoDraw
+        go (Stops x) e passed below rest = absurd (refused_passed passed)
         go (Goes next) e passed below rest = by (nat_lt n next.at) refl
           where
-            by : (short : Bool) → nat_lt n next.at ≡ short → (turned (take n draws) (iterate_of c o logs (take n draws) g)).checked ≡ K.Refused NoDraw
+            by : (short : Bool) → nat_lt n next.at ≡ short → (turned (take n draws) (iterate_of c o logs (take n draws) g)).checked ≡ Err NoDraw
             by true q = ap (λ (t : Turn). (turned (take n draws) t).checked) (iterate_fewer g e n from (ltb-true n next.at q))
             by false q =
                 let there : next.at ≤ n = omega (arith, ltb-false n next.at q) in
@@ -62,8 +63,8 @@ module _ (c : CraftContext) (o : SearchOptions) (logs : List Float) (draws : Lis
                 ∙ rest next (done + 1) one (omega arith) passed n there below
 
     -- of the whole search
-    pub search_fewer : (nodes : List Node) → 0 < length nodes → (grow_of c o logs draws nodes).checked ≡ K.Passed
-        → (n : ℕ) → n < (grow_of c o logs draws nodes).growth.at → (grow_of c o logs (take n draws) nodes).checked ≡ K.Refused NoDraw
+    pub search_fewer : (nodes : List Node) → 0 < length nodes → (grow_of c o logs draws nodes).checked ≡ pass
+        → (n : ℕ) → n < (grow_of c o logs draws nodes).growth.at → (grow_of c o logs (take n draws) nodes).checked ≡ Err NoDraw
     search_fewer nodes some passed n below =
         grow_fewer o.iterations (start_growth c o logs draws nodes) 0 (start_grows c o logs asked draws nodes some) (omega (arith, asked.iterations)) passed
         n (omega arith) below

@@ -1,6 +1,6 @@
 -- How the code finds the best child: past the index from the newest record down, and then by the index, from a record's last child to the one before it.
 -- Assumes nothing.
-use Rattle.std.specs.Prelude.{◌≡◌, ℕ, zero, suc, ◌+◌, ◌-◌, ◌<◌, ◌≤◌, Bool, true, false, cond, not, List, nat_lt, refl}
+use Rattle.std.specs.Prelude.{◌≡◌, ℕ, zero, suc, ◌+◌, ◌-◌, ◌<◌, ◌≤◌, Bool, true, false, cond, not, List, nat_lt, Option, Some, None, refl}
 use Rattle.std.proofs.Common.{sym, ap, ◌∙◌, le_refl, arith, ltb-true, ltb-false, eq-eqb, ne_eqb}
 use Rattle.laws.specs.laws.Tests.{and_both}
 use Rattle.tree.specs.declared.node.Node.{Node}
@@ -10,8 +10,7 @@ use Rattle.tree.specs.laws.Best.{child_some, child_parent}
 use Rattle.tree.specs.laws.Tree.{tree_falls}
 use Rattle.rates.specs.declared.Best.{Best}
 use Rattle.rates.specs.declared.Weights.{Weights}
-use Rattle.rates.specs.Best.{no_best}
-use Rattle.rates.specs.inner.Holds.{Holds, Asks}
+use Rattle.rates.specs.inner.Holds.{Kept, Holds, Asks}
 use Rattle.search.specs.inner.Links.{linked, last_at, older_at, last_link, last_below, top_of, Links}
 use Rattle.search.specs.inner.Newest.{better_node, better_child, best_down, FairChildren, Linked}
 use Rattle.search.specs.laws.Links.{top_count, top_linked, top_some, last_child, down_skips}
@@ -19,7 +18,7 @@ use Rattle.search.specs.laws.Newest.{down_start, down_each, down_child}
 
 -- ---- past the index, record by record
 
-pub late_turn : (weights : Weights) (nodes : List Node) (parent k : ℕ) (best : Best) → 0 < k
+pub late_turn : (weights : Weights) (nodes : List Node) (parent k : ℕ) (best : Option Best) → 0 < k
     → best_down weights nodes parent (k - 1) (better_child best (k - 1) (node_at nodes (k - 1)) parent weights) ≡ best_down weights nodes parent k best
 late_turn weights nodes parent k best some =
     let back : k - 1 + 1 ≡ k = omega arith in
@@ -28,23 +27,23 @@ late_turn weights nodes parent k best some =
 -- ---- by the index
 
 -- the way from record last: at record k, with the best so far
-pub record Way (nodes : List Node) (last : ℕ) (weights : Weights) (late : Best) (k : ℕ) (best : Best) : Type 0 where
+pub record Way (nodes : List Node) (last : ℕ) (weights : Weights) (late : Option Best) (k : ℕ) (best : Option Best) : Type 0 where
   pub upto : k ≤ last
   pub child : 0 < k → (node_at nodes k).parent ≡ (node_at nodes last).parent
   pub holds : Holds weights best
   pub said : best_down weights nodes (node_at nodes last).parent (k + 1) best ≡ best_down weights nodes (node_at nodes last).parent (last + 1) late
 
-module _ {nodes : List Node} {links : List ℕ} {last : ℕ} {weights : Weights} {late : Best} (l : Linked nodes links last weights late) where
+module _ {nodes : List Node} {links : List ℕ} {last : ℕ} {weights : Weights} {late : Option Best} (l : Linked nodes links last weights late) where
   abbrev parent : ℕ
   parent = (node_at nodes last).parent
 
   pub way_first : Way nodes last weights late last late
   way_first = record { upto = le_refl last; child = λ some. refl; holds = l.holds; said = refl }
 
-  pub way_end : {best : Best} → Way nodes last weights late 0 best → best ≡ best_down weights nodes parent (last + 1) late
+  pub way_end : {best : Option Best} → Way nodes last weights late 0 best → best ≡ best_down weights nodes parent (last + 1) late
   way_end {best} w = sym (down_start weights nodes parent best) ∙ w.said
 
-  module _ {k : ℕ} {best : Best} (w : Way nodes last weights late k best) (some : 0 < k) where
+  module _ {k : ℕ} {best : Option Best} (w : Way nodes last weights late k best) (some : 0 < k) where
     is_child_lem : is_child k (node_at nodes k) parent ≡ true
     is_child_lem = and_both (ap not (ne_eqb k 0 (λ e. omega arith))) (eq-eqb (node_at nodes k).parent parent (w.child some))
 
@@ -65,7 +64,7 @@ module _ {nodes : List Node} {links : List ℕ} {last : ℕ} {weights : Weights}
     pub way_less : older_at links k < k
     way_less = rw older_is older_below
 
-    pub way_on : {b : Best} → b ≡ better_node best k (node_at nodes k) weights → Holds weights b → Way nodes last weights late (older_at links k) b
+    pub way_on : {b : Best} → b ≡ better_node best k (node_at nodes k) weights → Kept weights b → Way nodes last weights late (older_at links k) (Some b)
     way_on {b} e holds =
         record {
           upto = omega (arith, way_less, w.upto);
@@ -75,8 +74,8 @@ module _ {nodes : List Node} {links : List ℕ} {last : ℕ} {weights : Weights}
               rw older_is (child_parent before (node_at nodes before) parent (last_child nodes parent k was).1);
           holds = holds;
           said = rw older_is
-              (sym (down_skips nodes parent weights k b)
-              ∙ ap (best_down weights nodes parent k) e
+              (sym (down_skips nodes parent weights k (Some b))
+              ∙ ap (λ (x : Best). best_down weights nodes parent k (Some x)) e
               ∙ sym (down_child weights nodes parent k best is_child_lem)
               ∙ w.said);
         }
@@ -125,7 +124,7 @@ module _ (weights : Weights) (nodes : List Node) (count : ℕ) (links : List ℕ
       let was : 0 < below = rw last_is at some in
       rw last_is (child_parent below (node_at nodes below) k (last_child nodes k (top_of count) was).1)
 
-  pub index_asks : (late : Best) → Holds weights late → Linked nodes links last weights late
+  pub index_asks : (late : Option Best) → Holds weights late → Linked nodes links last weights late
   index_asks late holds =
       record {
         inside = omega (arith, inside, top_linked count);
@@ -138,8 +137,8 @@ module _ (weights : Weights) (nodes : List Node) (count : ℕ) (links : List ℕ
       }
 
   -- the best by the index, after that past it, is the best of all
-  pub index_best : (late : Best) → best_down weights nodes k (top_of count) late ≡ best_down weights nodes k count no_best
-      → best_down weights nodes (node_at nodes last).parent (last + 1) late ≡ best_down weights nodes k count no_best
+  pub index_best : (late : Option Best) → best_down weights nodes k (top_of count) late ≡ best_down weights nodes k count None
+      → best_down weights nodes (node_at nodes last).parent (last + 1) late ≡ best_down weights nodes k count None
   index_best late e = go last refl ∙ rw last_is (sym (down_skips nodes k weights (top_of count) late)) ∙ e
     where
       go : (n : ℕ) → last ≡ n → best_down weights nodes (node_at nodes n).parent (n + 1) late ≡ best_down weights nodes k (n + 1) late

@@ -1,7 +1,7 @@
 -- THE theorem of an iteration: one that is accepted takes the records of a search to those of a search with one iteration more, within the room; its score is
 -- from -1 to 1; and it turns on no draw beyond those that it used.
 -- Assumes nothing.
-use Rattle.std.specs.Prelude.{◌≡◌, ℕ, zero, suc, ◌+◌, ◌-◌, ◌<◌, ◌≤◌, Bool, true, false, cond, List, [], ◌∷◌, length, take, drop, ◌==◌, ◌≢◌, nat_le, Float}
+use Rattle.std.specs.Prelude.{◌≡◌, ℕ, zero, suc, ◌+◌, ◌-◌, ◌<◌, ◌≤◌, Bool, true, false, cond, List, [], ◌∷◌, length, take, drop, ◌==◌, ◌≢◌, nat_le, Float, Ok, Err}
 use Rattle.std.proofs.Math.Path.{refl, sym, ap}
 use Rattle.std.proofs.Common.{subst, ◌∙◌, zero-add, suc-add, length-drop}
 use native.Mathlib.Omega.{arith}
@@ -18,9 +18,7 @@ use Rattle.craft_context.specs.declared.context.CraftContext.{CraftContext}
 use Rattle.score.specs.Bounds.{ScoreIsBounded}
 use Rattle.score.specs.declared.result.CraftResult.{CraftResult}
 use Rattle.score.specs.declared.result.CraftResult.TheVariants as R
-use Rattle.rollout.specs.declared.rollout.Rolled.{Rolled}
-use Rattle.rollout.specs.declared.rollout.Rolled.TheVariants as L
-use Rattle.rollout.specs.Rollout.{sampled_of}
+use Rattle.rollout.specs.Rollout.{Rolled, sampled_of}
 use Rattle.rollout.specs.laws.RolledSampled.{Rolls, rolled, sampled_length, sampled_take}
 use Rattle.tree.specs.declared.node.Node.{Node}
 use Rattle.tree.specs.Node.{plus_zero, is_score}
@@ -77,7 +75,7 @@ module _ (c : CraftContext) (o : SearchOptions) (logs : List Float) (draws : Lis
   pub record Accepted (next : Growth) : Type 0 where
     pub result : CraftResult
     pub end : ℕ
-    pub rolls : rolled_of c o logs draws g ≡ L.Ended result end
+    pub rolls : rolled_of c o logs draws g ≡ Ok (result, end)
     pub room : g.count + stored_by result end ≤ length g.nodes
     pub same : next ≡ grown_of c o logs draws g result end (stored_by result end)
 
@@ -86,8 +84,8 @@ module _ (c : CraftContext) (o : SearchOptions) (logs : List Float) (draws : Lis
   accepted {next} e = go (rolled_of c o logs draws g) refl e
     where
       go : (r : Rolled) → rolled_of c o logs draws g ≡ r → turn_by c o logs draws g r ≡ Goes next → Accepted next
-      go (L.Refused x) q e = absurd (stops_never e)
-      go (L.Ended result end) q e = fits (nat_le (g.count + stored_by result end) (length g.nodes)) refl e
+      go (Err x) q e = absurd (stops_never e)
+      go (Ok (result, end)) q e = fits (nat_le (g.count + stored_by result end) (length g.nodes)) refl e
         where
           fits : (t : Bool) → nat_le (g.count + stored_by result end) (length g.nodes) ≡ t
               → cond t (Goes (grown_of c o logs draws g result end (stored_by result end))) (Stops (NoRoom (g.count + stored_by result end))) ≡ Goes next
@@ -98,7 +96,7 @@ module _ (c : CraftContext) (o : SearchOptions) (logs : List Float) (draws : Lis
 -- ---- the place in the draws
 
 module _ (c : CraftContext) (o : SearchOptions) (logs : List Float) (draws : List ℕ) (g : Growth) where
-  pub rolled_place : {result : CraftResult} {end : ℕ} → rolled_of c o logs draws g ≡ L.Ended result end → g.at ≤ length draws → end ≤ length draws
+  pub rolled_place : {result : CraftResult} {end : ℕ} → rolled_of c o logs draws g ≡ Ok (result, end) → g.at ≤ length draws → end ≤ length draws
   rolled_place {result} {end} r h =
       omega (arith, (rolled c (selected_state c o logs draws g) (unused_of c o logs draws g) g.at (drop g.at draws) result end r).most, length-drop g.at draws)
 
@@ -125,7 +123,7 @@ module _ (c : CraftContext) (o : SearchOptions) (logs : List Float) (draws : Lis
   pub selected_inside : selected_of c o logs draws g < g.count
   selected_inside = selected_below o logs g.nodes g.count (tree_falls grows.growing.tree) grows.growing.tree.some
 
-  module _ {result : CraftResult} {end : ℕ} (r : rolled_of c o logs draws g ≡ L.Ended result end) where
+  module _ {result : CraftResult} {end : ℕ} (r : rolled_of c o logs draws g ≡ Ok (result, end)) where
     pub rolls : Rolls c (selected_state c o logs draws g) (unused_of c o logs draws g) g.at (drop g.at draws) result end
     rolls = rolled c (selected_state c o logs draws g) (unused_of c o logs draws g) g.at (drop g.at draws) result end r
 

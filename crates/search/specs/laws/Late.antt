@@ -3,20 +3,16 @@
 use Rattle.std.proofs.Math.Path.{refl}
 use Rattle.std.proofs.Math.Logic.{inl}
 use Rattle.std.proofs.Common.{inr}
-use Rattle.std.specs.Prelude.{ℕ, zero, suc, ◌+◌, Bool, true, false, cond, List, [], ◌∷◌, length, drop, ◌==◌, nat_le, nat_lt, Float}
+use Rattle.std.specs.Prelude.{ℕ, zero, suc, ◌+◌, Bool, true, false, cond, List, [], ◌∷◌, length, drop, ◌==◌, nat_le, nat_lt, Float, Ok, Err}
 use Rattle.refusal.specs.declared.Refusal.{Refusal}
 use Rattle.refusal.specs.declared.Refusal.TheVariants.{NoRoom, NoDraw, DrawTooHigh}
-use Rattle.refusal.specs.declared.Checked.{Checked}
-use Rattle.refusal.specs.declared.Checked.TheVariants as K
-use Rattle.refusal.specs.Judge.{judged, checks_of}
+use Rattle.refusal.specs.Judge.{Checked, judged, checks_of}
 use Rattle.refusal.specs.Demands.{number_of, Among}
 use Rattle.action_set.specs.Sets.{size_of}
 use Rattle.craft_context.specs.declared.context.CraftContext.{CraftContext}
 use Rattle.craft_state.specs.declared.state.CraftState.{CraftState}
 use Rattle.score.specs.Result.{judged_by}
-use Rattle.rollout.specs.declared.rollout.Rolled.{Rolled}
-use Rattle.rollout.specs.declared.rollout.Rolled.TheVariants as L
-use Rattle.rollout.specs.Rollout.{drawn_state, strict_moves, rolled_from}
+use Rattle.rollout.specs.Rollout.{drawn_state, strict_moves, Rolled, rolled_from}
 use Rattle.tree.specs.declared.node.Node.{Node}
 use Rattle.search.specs.declared.options.SearchOptions.{SearchOptions}
 use Rattle.search.specs.Iterate.{Growth, Turn, Goes, Stops, selected_state, unused_of, grown_of, rolled_of, turn_by, iterate_of}
@@ -29,22 +25,22 @@ Late x = Among (6 ∷ 19 ∷ 20 ∷ []) (number_of x)
 -- ---- a rollout, an iteration and tests, refused if at all by one of them
 
 abbrev RollsLate : Rolled → Type 0
-RollsLate (L.Ended result end) = Unit {0}
-RollsLate (L.Refused x) = Late x
+RollsLate (Ok p) = Unit {0}
+RollsLate (Err x) = Late x
 
 abbrev TurnsLate : Turn → Type 0
 TurnsLate (Goes next) = Unit {0}
 TurnsLate (Stops x) = Late x
 
 abbrev pub ChecksLate : Checked → Type 0
-ChecksLate K.Passed = Unit {0}
-ChecksLate (K.Refused x) = Late x
+ChecksLate (Ok u) = Unit {0}
+ChecksLate (Err x) = Late x
 
 rolled_late : (c : CraftContext) (draws : List ℕ) (s : CraftState) (moves at : ℕ) → RollsLate (rolled_from c s moves at draws)
 unfolding rolled_from
 rolled_late c [] s moves at = go (moves == 0)
   where
-    go : (b : Bool) → RollsLate (cond b (L.Ended (judged_by c s moves) at) (L.Refused NoDraw))
+    go : (b : Bool) → RollsLate (cond b (Ok (judged_by c s moves, at)) (Err NoDraw))
     go true = tt
     go false = inr (inl refl)
 rolled_late c (d ∷ draws) s moves at =
@@ -53,7 +49,7 @@ rolled_late c (d ∷ draws) s moves at =
     next : Rolled
     next = rolled_from c (drawn_state c s moves d) (strict_moves c (drawn_state c s moves d)) (at + 1) draws
 
-    go : (ends below : Bool) → RollsLate next → RollsLate (cond ends (L.Ended (judged_by c s moves) at) (cond below next (L.Refused DrawTooHigh)))
+    go : (ends below : Bool) → RollsLate next → RollsLate (cond ends (Ok (judged_by c s moves, at)) (cond below next (Err DrawTooHigh)))
     go true below later = tt
     go false true later = later
     go false false later = inr (inr (inl refl))
@@ -68,10 +64,10 @@ module _ (c : CraftContext) (o : SearchOptions) (logs : List Float) (draws : Lis
       room false next needed = inl refl
 
       go : (r : Rolled) → RollsLate r → TurnsLate (turn_by c o logs draws g r)
-      go (L.Ended result end) h =
+      go (Ok (result, end)) h =
           let stored : ℕ = stored_by c o logs draws g result end in
           room (nat_le (g.count + stored) (length g.nodes)) (grown_of c o logs draws g result end stored) (g.count + stored)
-      go (L.Refused x) h = h
+      go (Err x) h = h
 
   grow_late : (left : ℕ) (g : Growth) (iterations : ℕ) → ChecksLate (grow_from c o logs draws left g iterations).checked
   unfolding grow_from
@@ -80,7 +76,7 @@ module _ (c : CraftContext) (o : SearchOptions) (logs : List Float) (draws : Lis
     where
       go : (t : Turn) → TurnsLate t → ((next : Growth) → ChecksLate (grow_from c o logs draws left next (iterations + 1)).checked)
           → ChecksLate (on_turn (λ next. grow_from c o logs draws left next (iterations + 1))
-          (λ x. record { growth = g; iterations = iterations; checked = K.Refused x }) t).checked
+          (λ x. record { growth = g; iterations = iterations; checked = Err x }) t).checked
       go (Goes next) h rest = rest next
       go (Stops x) h rest = h
 
@@ -92,6 +88,6 @@ pub path_late : (z : Outcome) (room : ℕ) → ChecksLate (checks_of (path_tests
 unfolding judged
 path_late z room = go (nat_le (length (path_of z)) room)
   where
-    go : (b : Bool) → ChecksLate (cond b K.Passed (K.Refused (NoRoom (length (path_of z)))))
+    go : (b : Bool) → ChecksLate (cond b (Ok tt) (Err (NoRoom (length (path_of z)))))
     go true = tt
     go false = inl refl

@@ -1,6 +1,6 @@
 -- The index of children: it holds of a planted tree, is kept where a record is stored and where floats change, and leads from child to child, newest first.
 -- Assumes nothing.
-use Rattle.std.specs.Prelude.{◌≡◌, ℕ, zero, suc, ◌+◌, ◌*◌, ◌<◌, ◌≤◌, Bool, true, false, cond, List, length, replicate, ◌==◌, nat_lt, slice_set}
+use Rattle.std.specs.Prelude.{◌≡◌, ℕ, zero, suc, ◌+◌, ◌*◌, ◌<◌, ◌≤◌, Bool, true, false, cond, List, length, replicate, ◌==◌, nat_lt, slice_set, Option, Some}
 use Rattle.std.proofs.Math.Path.{refl}
 use Rattle.std.proofs.Common.{sym, ap, ◌∙◌, ⊎_elim, le_refl, arith, get_or-set_same}
 use Rattle.std.proofs.Math.ListN.{length-set}
@@ -60,7 +60,7 @@ module _ (nodes : List Node) (parent : ℕ) where
       go false e some rest = let r = rest some in (omega (arith, r.0), r.1)
 
   -- none is between it and record t, so the best child is that from it on; where there is none record 0 is left, which is no child
-  pub down_skips : (weights : Weights) (t : ℕ) (best : Best)
+  pub down_skips : (weights : Weights) (t : ℕ) (best : Option Best)
       → best_down weights nodes parent t best ≡ best_down weights nodes parent (last_below t nodes parent + 1) best
   unfolding last_below best_down
   down_skips weights zero best = refl
@@ -70,7 +70,7 @@ module _ (nodes : List Node) (parent : ℕ) where
       below = last_below k nodes parent
 
       go : (t : Bool) → is_child k (node_at nodes k) parent ≡ t → best_down weights nodes parent k best ≡ best_down weights nodes parent (below + 1) best
-          → best_down weights nodes parent k (cond t (better_node best k (node_at nodes k) weights) best) ≡ best_down weights nodes parent (cond t k below + 1) best
+          → best_down weights nodes parent k (cond t (Some (better_node best k (node_at nodes k) weights)) best) ≡ best_down weights nodes parent (cond t k below + 1) best
       go true e rest = sym (down_child weights nodes parent k best e)
       go false e rest = rest
 

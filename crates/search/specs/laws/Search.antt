@@ -2,13 +2,14 @@
 -- executed whole by a plain replay, whose state is the one answered; a refused search is the one of the iterations before; and draws beyond the used ones
 -- change nothing.
 -- Assumes nothing.
-use Rattle.std.specs.Prelude.{◌≡◌, ℕ, zero, suc, ◌+◌, ◌-◌, ◌<◌, ◌≤◌, List, length, take, ◌≢◌, Float}
+use Rattle.std.specs.Prelude.{◌≡◌, ℕ, zero, suc, ◌+◌, ◌-◌, ◌<◌, ◌≤◌, List, length, take, Float, Err}
 use Rattle.std.proofs.Math.Path.{refl}
 use Rattle.std.proofs.Common.{sym, ap, ◌∙◌, take-take}
 use Rattle.std.proofs.Math.Nat.{le_refl}
 use native.Mathlib.Omega.{arith}
 use Rattle.refusal.specs.declared.Refusal.{Refusal}
-use Rattle.refusal.specs.declared.Checked.TheVariants as K
+use Rattle.refusal.specs.Judge.{pass}
+use Rattle.refusal.specs.laws.Judge.{refused_passed}
 use Rattle.craft_context.specs.declared.context.CraftContext.{CraftContext}
 use Rattle.craft_state.specs.Limits.{step_most}
 use Rattle.moves.specs.Modes.{plain}
@@ -30,10 +31,7 @@ pub record Ends (c : CraftContext) (g : Growth) (done left : ℕ) (z : Outcome) 
   pub least : done ≤ z.iterations
   pub most : z.iterations ≤ done + left
   -- all of them, where none was refused
-  pub whole : z.checked ≡ K.Passed → z.iterations ≡ done + left
-
-pub refused_never : {x : Refusal} → K.Refused x ≢ K.Passed
-refused_never e = let z : ◌≡◌ {A = ℕ} 0 1 = cc in omega arith
+  pub whole : z.checked ≡ pass → z.iterations ≡ done + left
 
 -- none is done
 none_on : (c : CraftContext) (g : Growth) (done : ℕ) → Grows c g done → Goes_on g g
@@ -49,7 +47,7 @@ module _ (c : CraftContext) (o : SearchOptions) (logs : List Float) (asked : Ask
       go : (t : Turn) → iterate_of c o logs draws g ≡ t
           → ((next : Growth) (done : ℕ) → Grows c next done → done + left ≤ iterations_most → Ends c next done left (grow_from c o logs draws left next done))
           → Ends c g done (suc left)
-          (on_turn (λ next. grow_from c o logs draws left next (done + 1)) (λ x. record { growth = g; iterations = done; checked = K.Refused x }) t)
+          (on_turn (λ next. grow_from c o logs draws left next (done + 1)) (λ x. record { growth = g; iterations = done; checked = Err x }) t)
       go (Goes next) e rest =
           let one = iterate_grows c o logs draws g done asked grows (omega arith) e in
           let r = rest next (done + 1) one.0 (omega arith) in
@@ -66,7 +64,7 @@ module _ (c : CraftContext) (o : SearchOptions) (logs : List Float) (asked : Ask
             whole = λ p. omega (arith, r.whole p);
           }
       go (Stops x) e rest =
-          record { grows = grows; on = none_on c g done grows; least = le_refl _; most = omega arith; whole = λ p. absurd (refused_never p) }
+          record { grows = grows; on = none_on c g done grows; least = le_refl _; most = omega arith; whole = λ p. absurd (refused_passed p) }
 
   -- ---- the whole search
 
@@ -95,7 +93,7 @@ module _ (c : CraftContext) (o : SearchOptions) (logs : List Float) (asked : Ask
 
 -- as one that was refused nothing
 abbrev pub as_passed : Outcome → Outcome
-as_passed z = record { growth = z.growth; iterations = z.iterations; checked = K.Passed }
+as_passed z = record { growth = z.growth; iterations = z.iterations; checked = pass }
 
 module _ (c : CraftContext) (o : SearchOptions) (logs : List Float) (asked : Asked c o logs) (draws : List ℕ) where
   -- a search that stopped is the one of as many iterations as were done
@@ -106,7 +104,7 @@ module _ (c : CraftContext) (o : SearchOptions) (logs : List Float) (asked : Ask
   grow_stands (suc left) g done grows few = go (iterate_of c o logs draws g) refl (grow_stands left)
     where
       turned : (n : ℕ) → Turn → Outcome
-      turned n t = on_turn (λ next. grow_from c o logs draws n next (done + 1)) (λ x. record { growth = g; iterations = done; checked = K.Refused x }) t
+      turned n t = on_turn (λ next. grow_from c o logs draws n next (done + 1)) (λ x. record { growth = g; iterations = done; checked = Err x }) t
 
       one_more : (n : ℕ) {t : Turn} → iterate_of c o logs draws g ≡ t → grow_from c o logs draws (suc n) g done ≡ turned n t
       one_more n e = ap (turned n) e
@@ -126,7 +124,7 @@ module _ (c : CraftContext) (o : SearchOptions) (logs : List Float) (asked : Ask
 -- ---- draws beyond the used ones change nothing
 
 module _ (c : CraftContext) (o : SearchOptions) (logs : List Float) (asked : Asked c o logs) (draws others : List ℕ) where
-  pub grow_draws : (left : ℕ) (g : Growth) (done : ℕ) → Grows c g done → done + left ≤ iterations_most → (grow_from c o logs draws left g done).checked ≡ K.Passed
+  pub grow_draws : (left : ℕ) (g : Growth) (done : ℕ) → Grows c g done → done + left ≤ iterations_most → (grow_from c o logs draws left g done).checked ≡ pass
       → take (grow_from c o logs draws left g done).growth.at others ≡ take (grow_from c o logs draws left g done).growth.at draws
       → grow_from c o logs others left g done ≡ grow_from c o logs draws left g done
   unfolding grow_from
@@ -134,11 +132,11 @@ module _ (c : CraftContext) (o : SearchOptions) (logs : List Float) (asked : Ask
   grow_draws (suc left) g done grows few passed same = go (iterate_of c o logs draws g) refl passed same (grow_draws left)
     where
       turned : List ℕ → Turn → Outcome
-      turned ds t = on_turn (λ next. grow_from c o logs ds left next (done + 1)) (λ x. record { growth = g; iterations = done; checked = K.Refused x }) t
+      turned ds t = on_turn (λ next. grow_from c o logs ds left next (done + 1)) (λ x. record { growth = g; iterations = done; checked = Err x }) t
 
-      go : (t : Turn) → iterate_of c o logs draws g ≡ t → (turned draws t).checked ≡ K.Passed
+      go : (t : Turn) → iterate_of c o logs draws g ≡ t → (turned draws t).checked ≡ pass
           → take (turned draws t).growth.at others ≡ take (turned draws t).growth.at draws
-          → ((next : Growth) (done : ℕ) → Grows c next done → done + left ≤ iterations_most → (grow_from c o logs draws left next done).checked ≡ K.Passed
+          → ((next : Growth) (done : ℕ) → Grows c next done → done + left ≤ iterations_most → (grow_from c o logs draws left next done).checked ≡ pass
           → take (grow_from c o logs draws left next done).growth.at others ≡ take (grow_from c o logs draws left next done).growth.at draws
           → grow_from c o logs others left next done ≡ grow_from c o logs draws left next done)
           → turned others (iterate_of c o logs others g) ≡ turned draws t
@@ -149,10 +147,10 @@ module _ (c : CraftContext) (o : SearchOptions) (logs : List Float) (asked : Ask
           let first : take next.at others ≡ take next.at draws =
           sym (take-take next.at end others later) ∙ ap (take next.at) same ∙ take-take next.at end draws later in
           ap (turned others) (iterate_draws c o logs draws others g e first) ∙ rest next (done + 1) one (omega arith) passed same
-      go (Stops x) e passed same rest = absurd (refused_never passed)
+      go (Stops x) e passed same rest = absurd (refused_passed passed)
 
   -- of the whole search
-  pub search_draws : (nodes : List Node) → 0 < length nodes → (grow_of c o logs draws nodes).checked ≡ K.Passed
+  pub search_draws : (nodes : List Node) → 0 < length nodes → (grow_of c o logs draws nodes).checked ≡ pass
       → take (grow_of c o logs draws nodes).growth.at others ≡ take (grow_of c o logs draws nodes).growth.at draws
       → grow_of c o logs others nodes ≡ grow_of c o logs draws nodes
   search_draws nodes some passed same =

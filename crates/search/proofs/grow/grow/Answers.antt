@@ -1,21 +1,20 @@
--- `search::grow::grow` meets its contract: the loop's state is what was done, whether it goes on, the records and the index.
+-- `search::grow::grow` meets its contract: what was done, the records and the index are those of as many iterations.
 -- Assumes nothing.
-use Rattle.std.proofs.Common.{sym, ◌∙◌, refl}
-use Rattle.search.specs.laws.Going.{going_first, going_ready, going_on, going_ends}
+use Rattle.std.proofs.Common.{refl}
+use Rattle.search.specs.laws.Going.{going_first, going_ready, going_on, going_stops, going_ends}
 use Rattle.search.proofs.grow.grow.Goals as goal
 
-pub loop-going-init : goal.loop-going-init
-loop-going-init c = record { test = c.is_going-going.ensures; inv = going_first _ _ _ _ _ c.requires _ c.none-grown.ensures refl refl }
+pub loop-i-init : goal.loop-i-init
+loop-i-init c = going_first _ _ _ _ _ c.requires _ refl refl
 
 pub iterate-turned-requires : goal.iterate-turned-requires
-iterate-turned-requires c =
-    let goes = sym c.loop-going.invariant.test ∙ c.loop-going-test.true in
-    (going_ready _ _ _ _ _ c.loop-going.invariant.inv goes, c.loop-going.invariant.inv.place)
+iterate-turned-requires c = (going_ready _ _ _ _ _ c.loop-i.invariant c.loop-i-test.true, c.loop-i.invariant.place)
 
-pub loop-going-preserved : goal.loop-going-preserved
-loop-going-preserved c =
-    let goes = sym c.loop-going.invariant.test ∙ c.loop-going-test.true in
-    record { test = c.is_going-going-in-loop-going.ensures; inv = going_on _ _ _ _ _ c.loop-going.invariant.inv goes c.iterate-turned.ensures c.grown_by-grown.ensures }
+pub loop-i-preserved : goal.loop-i-preserved
+loop-i-preserved c = going_on _ _ _ _ _ c.loop-i.invariant c.loop-i-test.true c.iterate-turned.ensures c.in-Ok.is
+
+pub returns-in-Err : goal.returns-in-Err
+returns-in-Err c = going_stops _ _ _ _ _ c.loop-i.invariant c.loop-i-test.true c.iterate-turned.ensures c.in-Err.is
 
 pub returns : goal.returns
-returns c = going_ends _ _ _ _ _ c.loop-going.invariant.inv (sym c.loop-going.invariant.test ∙ c.loop-going-test.false)
+returns c = going_ends _ _ _ _ _ c.loop-i.invariant c.loop-i-test.false

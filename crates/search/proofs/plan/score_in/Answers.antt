@@ -1,22 +1,20 @@
--- `search::plan::score_in` meets its contract.
+-- `search::plan::score_in` meets its contract: the source's 0.0 is that whole number.
 -- Assumes nothing.
-use Rattle.std.proofs.Common.{sym, ap}
-use lib.Ieee.{of_int, of_bits}
+use Rattle.std.proofs.Common.{◌≡◌, refl}
+use lib.Ieee.{Float, of_int, of_bits}
+use Rattle.score.specs.declared.result.CraftResult.{CraftResult}
+use Rattle.score.specs.declared.result.CraftResult.TheVariants as R
+use Rattle.tree.specs.Node.{plus_zero}
 use Rattle.search.specs.Iterate.{score_in}
 use Rattle.search.proofs.plan.score_in.Goals as goal
 
-pub returns-in-DurabilityFailure : goal.returns-in-DurabilityFailure
-unfolding of_int of_bits
-returns-in-DurabilityFailure c = sym (ap score_in c.in-DurabilityFailure.is)
+unfinished : (result : CraftResult) → ((score : Float) → result ≡ R.Finished score → ⊥) → plus_zero ≡ score_in result
+unfinished (R.Finished score) apart = absurd (apart score refl)
+unfinished R.DurabilityFailure apart = refl
+unfinished R.MaxStepsFailure apart = refl
+unfinished R.InvalidActionFailure apart = refl
+unfinished R.Continuing apart = refl
 
-pub returns-in-MaxStepsFailure : goal.returns-in-MaxStepsFailure
+pub returns-in_default : goal.returns-in_default
 unfolding of_int of_bits
-returns-in-MaxStepsFailure c = sym (ap score_in c.in-MaxStepsFailure.is)
-
-pub returns-in-InvalidActionFailure : goal.returns-in-InvalidActionFailure
-unfolding of_int of_bits
-returns-in-InvalidActionFailure c = sym (ap score_in c.in-InvalidActionFailure.is)
-
-pub returns-in-Continuing : goal.returns-in-Continuing
-unfolding of_int of_bits
-returns-in-Continuing c = sym (ap score_in c.in-Continuing.is)
+returns-in_default c = unfinished c.args.res c.in_default.not-Finished

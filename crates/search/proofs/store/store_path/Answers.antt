@@ -30,9 +30,9 @@ stepped-state-requires c =
     subst (λ (n : ℕ). Playable c.args.context c.loop-i.state n (attributes_of n)) (sym (named (goal.at.stepped-state-requires c).After-sampled-action))
     (store_playable (part_on c.loop-i.invariant c.loop-i-test.true))
 
-pub strict_moves-moves-requires : goal.strict_moves-moves-requires
-strict_moves-moves-requires c =
-    subst (CraftIn c.args.context) (sym (c.stepped-state.ensures ∙ ap (execute_of c.args.context c.loop-i.state) (named (goal.at.strict_moves-moves-requires c).After-sampled-action)))
+pub moves_at_once-moves-requires : goal.moves_at_once-moves-requires
+moves_at_once-moves-requires c =
+    subst (CraftIn c.args.context) (sym (c.stepped-state.ensures ∙ ap (execute_of c.args.context c.loop-i.state) (named (goal.at.moves_at_once-moves-requires c).After-sampled-action)))
     (store_craft (part_on c.loop-i.invariant c.loop-i-test.true))
 
 pub insert_below-requires : goal.insert_below-requires
@@ -43,7 +43,7 @@ insert_below-requires c =
 pub loop-i-preserved : goal.loop-i-preserved
 loop-i-preserved c =
     part_more c.loop-i.invariant c.loop-i-test.true (named (goal.at.loop-i-preserved c).After-sampled-action) c.stepped-state.ensures
-    (c.insert_below.ensures.0 ∙ ap (below_of c.loop-i.nodes (c.args.count + c.loop-i.i) c.loop-i.end c.sampled-action.result) c.strict_moves-moves.ensures) c.insert_below.ensures.1
+    (c.insert_below.ensures.0 ∙ ap (below_of c.loop-i.nodes (c.args.count + c.loop-i.i) c.loop-i.end c.sampled-action.result) c.moves_at_once-moves.ensures.0) c.insert_below.ensures.1
 
 pub returns : goal.returns
 returns c = part_all c.loop-i.invariant c.loop-i-test.false
