@@ -11,7 +11,7 @@ use super::links::link;
 use super::select::stepped;
 use action_set::bits;
 use craft_context::CraftContext;
-use craft_state::CraftState;
+use craft_state::{Craft, CraftState};
 use moves::Mode;
 use tree::{Node, node_at, put_node};
 
@@ -73,7 +73,7 @@ pub fn store_path(
         let n = node_at(nodes, end);
         let action = sampled(draws, at + i, n.unused);
         state = stepped(context, state, action);
-        let moves = moves::moves_at_once(context, state, Mode::STRICT);
+        let moves = moves::moves_at_once(Craft { context, state }, Mode::STRICT);
         insert_below(nodes, links, count + i, end, action, moves);
         end = count + i;
     }

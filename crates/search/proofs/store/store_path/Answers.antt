@@ -30,10 +30,11 @@ stepped-state-requires c =
     subst (λ (n : ℕ). Playable c.args.context c.loop-i.state n (attributes_of n)) (sym (named (goal.at.stepped-state-requires c).After-sampled-action))
     (store_playable (part_on c.loop-i.invariant c.loop-i-test.true))
 
-pub moves_at_once-moves-requires : goal.moves_at_once-moves-requires
-moves_at_once-moves-requires c =
-    subst (CraftIn c.args.context) (sym (c.stepped-state.ensures ∙ ap (execute_of c.args.context c.loop-i.state) (named (goal.at.moves_at_once-moves-requires c).After-sampled-action)))
-    (store_craft (part_on c.loop-i.invariant c.loop-i-test.true))
+-- the state that is stored is inside the limits
+pub invariant_of-moves_at_once : goal.invariant_of-moves_at_once
+invariant_of-moves_at_once c =
+    let moved = c.stepped-state.ensures ∙ ap (execute_of c.args.context c.loop-i.state) (named (goal.at.invariant_of-moves_at_once c).After-sampled-action) in
+    record { inside = subst (CraftIn c.args.context) (sym moved) (store_craft (part_on c.loop-i.invariant c.loop-i-test.true)) }
 
 pub insert_below-requires : goal.insert_below-requires
 insert_below-requires c =
