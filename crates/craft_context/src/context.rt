@@ -74,7 +74,7 @@ impl CraftContext {
     }
 
     // Where the first field of all has the place `from`. Levels, steps and flags have no limit.
-    pub fn check_from(self, from: usize) -> Result<(), Refusal>
+    pub(crate) fn check_from(self, from: usize) -> Result<(), Refusal>
         requires { from ≤ context_first }
         ensures { result ≡ checks_of (limits_from from 0 (context_limits self)) }
     {
