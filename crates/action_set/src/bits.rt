@@ -1,4 +1,5 @@
 // The work on a set's bits, for callers that know the set and the number to be in range.
+// A `requires`, and no type with an invariant: a set is the u32 of the public `ActionSet`, which takes any number.
 ghost use Rattle.std.specs.Prelude.{◌≡◌, Bool, ℕ, ◌^◌, ◌≤◌, ◌<◌, length};
 ghost use Rattle.laws.specs.Lists.{elem};
 ghost use Rattle.laws.specs.Bits.{has};
@@ -73,6 +74,7 @@ pub fn next(s: u32) -> u8
 }
 
 // The walk over a set: each member is taken off what remains, tested, and dropped if it fails.
+// A `while`, since it counts nothing: it goes from member to member.
 pub fn keep<F: Fn(u8) -> bool>(s: u32, test: F) -> u32
     requires set { SetIn s }
     requires callable { (n : ℕ) → n < actions → F.pre test n }
