@@ -36,7 +36,7 @@ pub fn no_waste_not(state: CraftState) -> bool
 pub fn on_observe(combo: Option<Combo>) -> bool
     ensures { result ≡ on_observe combo }
 {
-    matches!(combo, Some(Combo::Observe))
+    combo == Some(Combo::Observe)
 }
 
 // Durability is enough for the cost.
