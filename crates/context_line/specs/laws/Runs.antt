@@ -18,7 +18,7 @@ module _ {b : ℕ} (d : digit b ≡ true) where
   pub digit_to : b ≤ 57
   digit_to = leb-true b 57 (both (leb 48 b) (leb b 57) d).1
 
--- a front is as long as the library's prefix, and ends where the first element is that fails
+-- a front is the library's prefix
 pub front_prefix : (f : ℕ → Bool) (text : List ℕ) → prefix_len f text ≡ front f text
 front_prefix f [] = refl
 front_prefix f (b ∷ text) = rw (front_prefix f text, one-add)
