@@ -74,7 +74,8 @@ pub fn next(s: u32) -> u8
 }
 
 // The walk over a set: each member is taken off what remains, tested, and dropped if it fails.
-// A `while`, since it counts nothing: it goes from member to member.
+// A `while`, since it counts nothing: it goes from member to member. Inlined, since the moves are found by it in the inner loops.
+#[inline(always)]
 pub fn keep<F: Fn(u8) -> bool>(s: u32, test: F) -> u32
     requires set { SetIn s }
     requires callable { (n : ℕ) → n < actions → F.pre test n }
