@@ -1,6 +1,6 @@
 -- Document 01, 'The replay program', for any bytes: its tests in the order of the refusals, its text, and what it prints.
 -- Assumes nothing.
-use Rattle.std.specs.Prelude.{List, [], ◌∷◌, ◌++◌, ℕ, ◌+◌, ltb, length, take, drop}
+use Rattle.std.specs.Prelude.{List, [], ◌∷◌, ◌++◌, ℕ, ◌+◌, ltb, length, take, drop, Result}
 use Rattle.refusal.specs.declared.Refusal.{Refusal}
 use Rattle.refusal.specs.declared.Refusal.TheVariants.{MalformedLine}
 use Rattle.refusal.specs.Report.{report_of}
@@ -14,7 +14,6 @@ use Rattle.context_line.specs.Fields.{context_of}
 use Rattle.context_line.specs.Read.{line_tests}
 use Rattle.transcript.specs.Transcript.{transcript_of}
 use Rattle.crafty.specs.Room.{WritesText, Fits}
-use Rattle.crafty.specs.declared.room.Written.{Written}
 
 -- ---- an input: a line up to its first byte 10, and the words after it
 
@@ -39,7 +38,7 @@ unfoldable pub replay_text_of : List ℕ → List ℕ
 replay_text_of input = transcript_of (context_in input) (actions_in (words_in input))
 
 -- and 6 last
-abbrev pub ReplaysText : List ℕ → List ℕ → Written → List ℕ → Type 0
+abbrev pub ReplaysText : List ℕ → List ℕ → Result ℕ Refusal → List ℕ → Type 0
 ReplaysText input out r after = WritesText (input_tests input) (replay_text_of input) out r after
 
 -- ---- what the program prints: that text, or the refusal's number alone
@@ -50,5 +49,5 @@ refused_text_of x = bytes "refused " ++ decimal_of (report_of x).0 ++ bytes "\n"
 unfoldable pub printed_of : List ℕ → List ℕ
 printed_of input = judged refused_text_of (replay_text_of input) (input_tests input)
 
-abbrev pub Prints : List ℕ → List ℕ → Written → List ℕ → Type 0
+abbrev pub Prints : List ℕ → List ℕ → Result ℕ Refusal → List ℕ → Type 0
 Prints input out r after = Fits (printed_of input) out r after

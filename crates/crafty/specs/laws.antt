@@ -1,3 +1,4 @@
+pub mod Ways
 pub mod Room
 pub mod Lists
 pub mod Program

@@ -1,109 +1,65 @@
 // The entries over single actions.
 ghost use Rattle.crafty.specs.Actions.{HasAttributes, HasPrice, HasWait, HasText, FromName};
 
-use super::room::{Written, write};
-use action::{Amount, Attributes, Combo, Found, TEXT_MOST, Text};
-use refusal::{Checked, Refusal};
+use super::room::write;
+use action::{Attributes, Combo, TEXT_MOST, Text};
+use refusal::Refusal;
 
-// An action's attributes, or a refusal.
-#[derive(Clone, Copy)]
-pub enum Attributed {
-    Row(Attributes),
-    Refused(Refusal),
-}
-
-// An action's price, none where it has no cost, or a refusal.
-#[derive(Clone, Copy)]
-pub enum Priced {
-    Costs(Amount),
-    Refused(Refusal),
-}
-
-// An action's wait in seconds, or a refusal.
-#[derive(Clone, Copy)]
-pub enum Timed {
-    Seconds(u8),
-    Refused(Refusal),
-}
-
-// The action that a name names, or a refusal.
-#[derive(Clone, Copy)]
-pub enum Named {
-    Action(u8),
-    Refused(Refusal),
-}
-
-pub fn attributes(n: u8) -> Attributed
+pub fn attributes(n: u8) -> Result<Attributes, Refusal>
     ensures { HasAttributes n result }
 {
-    let known = action::check_action(n);
-    if let Checked::Refused(x) = known {
-        return Attributed::Refused(x);
-    }
-    Attributed::Row(action::attributes_of(n))
+    action::check_action(n)?;
+    Ok(action::attributes_of(n))
 }
 
-// What the action costs on a combo.
-pub fn price(n: u8, combo: Combo) -> Priced
+// What the action costs on a combo: none where it has no cost.
+pub fn price(n: u8, combo: Option<Combo>) -> Result<Option<u32>, Refusal>
     ensures { HasPrice n combo result }
 {
-    let known = action::check_action(n);
-    if let Checked::Refused(x) = known {
-        return Priced::Refused(x);
-    }
-    let row = action::attributes_of(n);
-    let cost = row.cp_cost;
-    Priced::Costs(action::charged(n, combo, cost))
+    action::check_action(n)?;
+    Ok(action::charged(n, combo, action::attributes_of(n).cp_cost))
 }
 
-pub fn wait(n: u8) -> Timed
+// In seconds.
+pub fn wait(n: u8) -> Result<u8, Refusal>
     ensures { HasWait n result }
 {
-    let known = action::check_action(n);
-    if let Checked::Refused(x) = known {
-        return Timed::Refused(x);
-    }
-    Timed::Seconds(action::wait(action::attributes_of(n)))
+    action::check_action(n)?;
+    Ok(action::wait(action::attributes_of(n)))
 }
 
 // A text of an action: rendered into a room of its own, which is always enough, and then written.
-fn text_of(which: Text, n: u8, out: &mut [u8]) -> Written
+#[tactic(auto, using(action::specs::laws::Known::action_shown, action::specs::laws::Names::text_short, text::specs::laws::Over::take_put), unfolding(refusal::specs::Judge::judged))]
+fn text_of(which: Text, n: u8, out: &mut [u8]) -> Result<usize, Refusal>
     ensures { HasText which n out.old result out.new }
 {
-    let known = action::check_action(n);
-    if let Checked::Refused(x) = known {
-        return Written::Refused(x);
-    }
+    action::check_action(n)?;
     let mut room = [0u8; TEXT_MOST];
     let k = action::put_text(which, n, &mut room, 0);
     write(&room[..k], out)
 }
 
-pub fn name(n: u8, out: &mut [u8]) -> Written
+pub fn name(n: u8, out: &mut [u8]) -> Result<usize, Refusal>
     ensures { HasText Text.Name n out.old result out.new }
 {
     text_of(Text::Name, n, out)
 }
 
-pub fn label(n: u8, out: &mut [u8]) -> Written
+pub fn label(n: u8, out: &mut [u8]) -> Result<usize, Refusal>
     ensures { HasText Text.Label n out.old result out.new }
 {
     text_of(Text::Label, n, out)
 }
 
-pub fn macro_text(n: u8, out: &mut [u8]) -> Written
+pub fn macro_text(n: u8, out: &mut [u8]) -> Result<usize, Refusal>
     ensures { HasText Text.Macro n out.old result out.new }
 {
     text_of(Text::Macro, n, out)
 }
 
 // The whole buffer is the name.
-pub fn from_name(word: &[u8]) -> Named
+pub fn from_name(word: &[u8]) -> Result<u8, Refusal>
     ensures { FromName word.now result }
 {
-    let found = action::from_name(word);
-    let Found::Action(n) = found else {
-        return Named::Refused(Refusal::UnknownWord(0));
-    };
-    Named::Action(n)
+    action::from_name(word).ok_or(Refusal::UnknownWord(0))
 }

@@ -2,7 +2,7 @@
 // The entries over sets and contexts are the methods of `ActionSet` and `CraftContext`; a craft starts by `CraftState::new`; those over a tree are the
 // crate `tree`'s, and the search is the crate `search`'s.
 
-#![tactic(auto)]
+#![tactic(auto, unfolding(refusal::specs::Judge::judged))]
 
 mod actions;
 mod lists;
@@ -11,24 +11,18 @@ mod replays;
 mod room;
 mod states;
 
-pub use action::{Amount, Attributes, Combo};
-pub use action_set::{ActionSet, Asked, Changed, Highest, Listed, Size};
-pub use actions::{
-    Attributed, Named, Priced, Timed, attributes, from_name, label, macro_text, name, price, wait,
-};
-pub use craft_context::{Built, CraftContext, CraftOptions, Given, Player, Recipe};
-pub use craft_state::{Buffs, CraftState, Last, Perfection, Started};
-pub use lists::{Lasting, macro_time, read_list, write_list};
+pub use action::{Attributes, Combo};
+pub use action_set::ActionSet;
+pub use actions::{attributes, from_name, label, macro_text, name, price, wait};
+pub use craft_context::{CraftContext, CraftOptions, Player, Recipe};
+pub use craft_state::{Buffs, CraftState, Perfection};
+pub use lists::{macro_time, read_list, write_list};
 pub use moves::Mode;
 pub use program::{replay_output, replay_text};
-pub use refusal::{Also, Checked, Refusal, Report};
-pub use replays::{Replayed, replay};
-pub use room::Written;
+pub use refusal::{Refusal, Report};
+pub use replays::replay;
 pub use score::CraftResult;
-pub use search::{Found, Progress, SearchOptions, Searched, search};
+pub use search::{Found, Progress, SearchOptions, search};
 pub use simulator::Replay;
-pub use states::{Allowed, Judged, Scored, Stepped, display, moves, result, score, step};
-pub use tree::{
-    Inserted, Node, Offspring, Planted, Propagated, Recorded, Solved, backpropagate, children,
-    insert, plant, record_at, solution,
-};
+pub use states::{display, moves, result, score, step};
+pub use tree::{Node, backpropagate, children, insert, plant, record_at, solution};

@@ -9,11 +9,9 @@ ghost use Rattle.crafty.specs.Room.{Fits};
 ghost use Rattle.crafty.specs.Program.{ReplaysText, refused_text_of, Prints};
 ghost use Rattle.crafty.specs.inner.Program.{RendersWords, Renders};
 
-use super::room::{Written, write};
-use context_line::Read;
+use super::room::write;
 use craft_context::CraftContext;
-use refusal::{Checked, Refusal, SIZE_MOST};
-use rotation::Counted;
+use refusal::{Refusal, SIZE_MOST};
 use transcript::TRANSCRIPT_MOST;
 
 // The word, ten digits at most, and a newline.
@@ -29,21 +27,23 @@ fn render_list(
     base: usize,
     list: &mut [u8],
     room: &mut [u8],
-) -> Written
+) -> Result<usize, Refusal>
     requires { ContextIn context × (base + length words.now ≤ size_most) × (length words.now ≤ length list.old) × (transcript_most ≤ length room.old) }
     ensures { (list.new ≡ over list.old 0 (leading_in words.now)) × RendersWords context base words.now room.old result room.new }
 {
-    let read = rotation::read_words(words, list);
-    match read {
-        Counted::Unknown(offset) => Written::Refused(Refusal::UnknownWord(base + offset)),
-        Counted::Words(k) => {
-            Written::Length(transcript::put_transcript(context, &list[..k], room))
-        }
+    match rotation::read_words(words, list) {
+        Ok(k) => Ok(transcript::put_transcript(context, &list[..k], room)),
+        Err(offset) => Err(Refusal::UnknownWord(base + offset)),
     }
 }
 
 // The same with a room of its own for the list.
-fn render_words(context: CraftContext, words: &[u8], base: usize, room: &mut [u8]) -> Written
+fn render_words(
+    context: CraftContext,
+    words: &[u8],
+    base: usize,
+    room: &mut [u8],
+) -> Result<usize, Refusal>
     requires { ContextIn context × (base + length words.now ≤ size_most) × (transcript_most ≤ length room.old) }
     ensures { RendersWords context base words.now room.old result room.new }
 {
@@ -56,59 +56,49 @@ fn render_words(context: CraftContext, words: &[u8], base: usize, room: &mut [u8
 }
 
 // The whole input, replayed into a room that is always enough.
-fn render(input: &[u8], room: &mut [u8]) -> Written
+fn render(input: &[u8], room: &mut [u8]) -> Result<usize, Refusal>
     requires { transcript_most ≤ length room.old }
     ensures { Renders input.now room.old result room.new }
 {
-    let size = refusal::check_size(input.len());
-    if let Checked::Refused(x) = size {
-        return Written::Refused(x);
-    }
+    refusal::check_size(input.len())?;
     let end = context_line::line_end(input);
     if end >= input.len() {
-        return Written::Refused(Refusal::MalformedLine);
+        return Err(Refusal::MalformedLine);
     }
-    let read = context_line::read(&input[..end]);
-    match read {
-        Read::Refused(x) => Written::Refused(x),
-        Read::Context(context) => render_words(context, &input[end + 1..], end + 1, room),
-    }
+    let context = context_line::read(&input[..end])?;
+    render_words(context, &input[end + 1..], end + 1, room)
 }
 
 // The whole program: a context's line and a list, and what their replay prints. A room that is always enough is rendered into as it is lent.
-pub fn replay_text(input: &[u8], out: &mut [u8]) -> Written
+pub fn replay_text(input: &[u8], out: &mut [u8]) -> Result<usize, Refusal>
     ensures { ReplaysText input.now out.old result out.new }
 {
     if out.len() >= TRANSCRIPT_MOST {
         return render(input, out);
     }
     let mut room = [0u8; TRANSCRIPT_MOST];
-    let rendered = render(input, &mut room);
-    match rendered {
-        Written::Refused(x) => Written::Refused(x),
-        Written::Length(k) => write(&room[..k], out),
-    }
+    let k = render(input, &mut room)?;
+    write(&room[..k], out)
 }
 
-fn write_refused(x: Refusal, out: &mut [u8]) -> Written
+fn write_refused(x: Refusal, out: &mut [u8]) -> Result<usize, Refusal>
     ensures { Fits (refused_text_of x) out.old result out.new }
 {
     let report = x.reported();
     let mut room = [0u8; REFUSED_MOST];
     let number = text::put(&mut room, 0, b"refused ");
-    let end = text::put_number(&mut room, number, report.0 as u32, 0);
+    let end = text::put_number(&mut room, number, u32::from(report.0), 0);
     let k = text::put_byte(&mut room, end, b'\n');
     write(&room[..k], out)
 }
 
 // What the program prints for every input: the replay, or the number of a refusal.
-pub fn replay_output(input: &[u8], out: &mut [u8]) -> Written
+pub fn replay_output(input: &[u8], out: &mut [u8]) -> Result<usize, Refusal>
     ensures { Prints input.now out.old result out.new }
 {
     let mut room = [0u8; TRANSCRIPT_MOST];
-    let rendered = render(input, &mut room);
-    match rendered {
-        Written::Refused(x) => write_refused(x, out),
-        Written::Length(k) => write(&room[..k], out),
+    match render(input, &mut room) {
+        Ok(k) => write(&room[..k], out),
+        Err(x) => write_refused(x, out),
     }
 }

@@ -1,7 +1,7 @@
 -- One answer: for each public entry, two answers that meet its statement are equal, and so is what they leave in lent room or records.
 -- A line to each entry, named after it: the general law, applied to the statement that stands in the entry's `ensures`.
 -- Assumes nothing.
-use Rattle.std.specs.Prelude.{◌≡◌, List, Bool, ℕ, Float}
+use Rattle.std.specs.Prelude.{◌≡◌, List, Bool, ℕ, Float, Option}
 use Rattle.std.proofs.Common.{sym, ◌∙◌}
 use Rattle.refusal.specs.declared.Refusal.{Refusal}
 use Rattle.refusal.specs.declared.Report.{Report}
@@ -61,7 +61,7 @@ module _ {A : Type 0} where
 pub one_attributes : (n : ℕ) → OneAnswer (HasAttributes n)
 one_attributes n = says
 
-pub one_price : (n : ℕ) (combo : Combo) → OneAnswer (HasPrice n combo)
+pub one_price : (n : ℕ) (combo : Option Combo) → OneAnswer (HasPrice n combo)
 one_price n combo = says
 
 pub one_wait : (n : ℕ) → OneAnswer (HasWait n)

@@ -1,12 +1,10 @@
 -- Laws of the replay program: what a rendered room holds, and that its text always fits.
 -- Assumes nothing.
-use Rattle.std.specs.Prelude.{◌≡◌, refl, List, [], ◌∷◌, ℕ, ◌+◌, ◌-◌, ◌≤◌, ◌<◌, length, take, drop}
+use Rattle.std.specs.Prelude.{◌≡◌, refl, List, [], ◌∷◌, ℕ, ◌+◌, ◌-◌, ◌≤◌, ◌<◌, length, take, drop, Result, Ok, Err}
 use Rattle.std.proofs.Common.{sym, ap, subst, ◌∙◌, le_trans, arith, le-leb, le-ltb, lt-ltb, length-drop, length-append, take_all}
 use Rattle.refusal.specs.declared.Refusal.{Refusal}
-use Rattle.refusal.specs.declared.Checked.{Checked}
-use Rattle.refusal.specs.declared.Checked.TheVariants as C
 use Rattle.refusal.specs.declared.Refusal.TheVariants.{MalformedLine}
-use Rattle.refusal.specs.Judge.{Test, checked_of, checks_of, Says, Writes, size_test, room_test}
+use Rattle.refusal.specs.Judge.{Test, Checked, pass, checked_of, checks_of, Says, Writes, answering, size_test, room_test}
 use Rattle.refusal.specs.laws.Judge.{judged_passed, judged_refused, shown, shown_by, stopped_room_by, onward_room_by, answered_room, holds_room}
 use Rattle.refusal.specs.Report.{report_of}
 use Rattle.text.specs.laws.Lengths.{decimal_most}
@@ -17,21 +15,16 @@ use Rattle.rotation.specs.laws.Words.{actions_known}
 use Rattle.craft_context.specs.declared.context.CraftContext.{CraftContext}
 use Rattle.context_line.specs.Shape.{line_end, numbers_of}
 use Rattle.context_line.specs.Fields.{context_of}
-use Rattle.context_line.specs.Read.{read, line_tests}
+use Rattle.context_line.specs.Read.{line_tests}
 use Rattle.context_line.specs.laws.Read.{read_context, read_refused, line_passed}
-use Rattle.context_line.specs.declared.fields.Read.{Read}
-use Rattle.context_line.specs.declared.fields.Read.TheVariants as R
 use Rattle.transcript.specs.Transcript.{transcript_most}
 use Rattle.transcript.specs.laws.Transcript.{transcript_short}
 use Rattle.crafty.specs.Program.{line_in, words_in, context_in, end_test, input_tests, replay_text_of, refused_text_of, printed_of, ReplaysText, Prints}
 use Rattle.crafty.specs.inner.Program.{RendersWords, Renders}
-use Rattle.crafty.specs.Room.{written}
 use Rattle.crafty.specs.laws.Room.{fits_length}
-use Rattle.crafty.specs.declared.room.Written.{Written}
-use Rattle.crafty.specs.declared.room.Written.TheVariants.{Length, Refused}
 
 -- THE law of the program's room: whatever is accepted, its text is at most 32,768 bytes
-pub text_fits : (input : List ℕ) → C.Passed ≡ checks_of (input_tests input) → length (replay_text_of input) ≤ transcript_most
+pub text_fits : (input : List ℕ) → pass ≡ checks_of (input_tests input) → length (replay_text_of input) ≤ transcript_most
 unfolding replay_text_of
 text_fits input p =
     let line = line_tests (line_in input) in
@@ -44,24 +37,24 @@ text_fits input p =
 -- ---- the parts of an input, as the code finds them
 
 module _ (input : List ℕ) where
-  pub end_none : length input ≤ line_end input → C.Refused MalformedLine ≡ checked_of (end_test input)
+  pub end_none : length input ≤ line_end input → Err MalformedLine ≡ checked_of (end_test input)
   end_none h = rw (le-ltb _ _ h)
 
-  pub end_some : line_end input < length input → C.Passed ≡ checked_of (end_test input)
+  pub end_some : line_end input < length input → pass ≡ checked_of (end_test input)
   end_some h = rw (lt-ltb _ _ h)
 
   module _ {end : ℕ} (e : end ≡ line_end input) where
-    abbrev Reading : Read → Type 0
-    Reading r = Says read (line_tests (take end input)) (R.Context (context_of (numbers_of (take end input)))) r
+    abbrev Reading : Result CraftContext Refusal → Type 0
+    Reading r = Says answering (line_tests (take end input)) (Ok (context_of (numbers_of (take end input)))) r
 
-    pub line_refused : {x : Refusal} → Reading (R.Refused x) → C.Refused x ≡ checks_of (line_tests (line_in input))
-    line_refused {x} s = subst (λ (k : ℕ). C.Refused x ≡ checks_of (line_tests (take k input))) e (read_refused s)
+    pub line_refused : {x : Refusal} → Reading (Err x) → Err x ≡ checks_of (line_tests (line_in input))
+    line_refused {x} s = subst (λ (k : ℕ). Err x ≡ checks_of (line_tests (take k input))) e (read_refused s)
 
-    pub line_accepted : {c : CraftContext} → Reading (R.Context c) → (c ≡ context_in input) × (C.Passed ≡ checks_of (line_tests (line_in input)))
-    line_accepted {c} s = subst (λ (k : ℕ). (c ≡ context_of (numbers_of (take k input))) × (C.Passed ≡ checks_of (line_tests (take k input)))) e (read_context s)
+    pub line_accepted : {c : CraftContext} → Reading (Ok c) → (c ≡ context_in input) × (pass ≡ checks_of (line_tests (line_in input)))
+    line_accepted {c} s = subst (λ (k : ℕ). (c ≡ context_of (numbers_of (take k input))) × (pass ≡ checks_of (line_tests (take k input)))) e (read_context s)
 
     -- the words are a part of the input up to its length
-    pub words_rendered : {c : CraftContext} → c ≡ context_in input → {room after : List ℕ} {r : Written}
+    pub words_rendered : {c : CraftContext} → c ≡ context_in input → {room after : List ℕ} {r : Result ℕ Refusal}
         → RendersWords c (end + 1) (take (length input - (end + 1)) (drop (end + 1) input)) room r after
         → RendersWords (context_in input) (line_end input + 1) (words_in input) room r after
     words_rendered {c} i {room} {after} {r} w =
@@ -74,74 +67,74 @@ module _ (input : List ℕ) where
 -- ---- what a writer into a room that is enough answered: every test passed, and the text stands in the room; or the first that failed
 
 module _ (tests : List Test) (text room : List ℕ) where
-  abbrev Rendering : Written → List ℕ → Type 0
-  Rendering r after = Writes written tests (Length (length text)) room (over room 0 text) r after
+  abbrev Rendering : Result ℕ Refusal → List ℕ → Type 0
+  Rendering r after = Writes answering tests (Ok (length text)) room (over room 0 text) r after
 
-  when_passed : (r : Written) (after : List ℕ) → Rendering r after → C.Passed ≡ checks_of tests
-      → (r ≡ Length (length text)) × (after ≡ over room 0 text)
+  when_passed : (r : Result ℕ Refusal) (after : List ℕ) → Rendering r after → pass ≡ checks_of tests
+      → (r ≡ Ok (length text)) × (after ≡ over room 0 text)
   when_passed r after w p = (
-    w.says.same ∙ sym (judged_passed Refused (Length (length text)) tests p),
+    w.says.same ∙ sym (judged_passed Err (Ok (length text)) tests p),
     w.room ∙ sym (judged_passed (λ y. room) (over room 0 text) tests p),
   )
 
-  when_refused : (r : Written) (after : List ℕ) → Rendering r after → {x : Refusal} → C.Refused x ≡ checks_of tests → r ≡ Refused x
-  when_refused r after w f = w.says.same ∙ sym (judged_refused Refused (Length (length text)) tests f)
+  when_refused : (r : Result ℕ Refusal) (after : List ℕ) → Rendering r after → {x : Refusal} → Err x ≡ checks_of tests → r ≡ Err x
+  when_refused r after w f = w.says.same ∙ sym (judged_refused Err (Ok (length text)) tests f)
 
-  rendered_length : (C.Passed ≡ checks_of tests → length text ≤ length room) → {k : ℕ} {after : List ℕ} → Rendering (Length k) after
-      → (C.Passed ≡ checks_of tests) × Rendered text k after
+  rendered_length : (pass ≡ checks_of tests → length text ≤ length room) → {k : ℕ} {after : List ℕ} → Rendering (Ok k) after
+      → (pass ≡ checks_of tests) × Rendered text k after
   rendered_length enough {k} {after} w = by (checks_of tests) refl
     where
-      by : (c : Checked) → c ≡ checks_of tests → (C.Passed ≡ checks_of tests) × Rendered text k after
-      by C.Passed e =
-          let is = when_passed (Length k) after w e in
-          let same : Length k ≡ Length (length text) = is.0 in
+      by : (c : Checked) → c ≡ checks_of tests → (pass ≡ checks_of tests) × Rendered text k after
+      by (Ok u) e =
+          let is = when_passed (Ok k) after w e in
+          let same : Ok k ≡ Ok (length text) = is.0 in
           let count : k ≡ length text = cc in
           (e, rendered {out = room} (record { next = omega (arith, count); same = is.1 }) (enough e))
-      by (C.Refused x) e = let other = when_refused (Length k) after w e in let z : ◌≡◌ {A = ℕ} 0 1 = cc in absurd (omega arith)
+      by (Err x) e = let other = when_refused (Ok k) after w e in let z : ◌≡◌ {A = ℕ} 0 1 = cc in absurd (omega arith)
 
-  rendered_refused : {x : Refusal} {after : List ℕ} → Rendering (Refused x) after → C.Refused x ≡ checks_of tests
+  rendered_refused : {x : Refusal} {after : List ℕ} → Rendering (Err x) after → Err x ≡ checks_of tests
   rendered_refused {x} {after} w = by (checks_of tests) refl
     where
-      by : (c : Checked) → c ≡ checks_of tests → C.Refused x ≡ checks_of tests
-      by C.Passed e = let other = (when_passed (Refused x) after w e).0 in let z : ◌≡◌ {A = ℕ} 0 1 = cc in absurd (omega arith)
-      by (C.Refused y) e = let other = when_refused (Refused x) after w e in let same : x ≡ y = cc in ap C.Refused same ∙ e
+      by : (c : Checked) → c ≡ checks_of tests → Err x ≡ checks_of tests
+      by (Ok u) e = let other = (when_passed (Err x) after w e).0 in let z : ◌≡◌ {A = ℕ} 0 1 = cc in absurd (omega arith)
+      by (Err y) e = let other = when_refused (Err x) after w e in let same : x ≡ y = cc in ap Err same ∙ e
 
 -- ---- of the whole input: its text in the room, or its refusal
 
-module _ (input room : List ℕ) {after : List ℕ} {r : Written} (w : Renders input room r after) where
-  pub input_accepted : transcript_most ≤ length room → {k : ℕ} → r ≡ Length k
-      → (C.Passed ≡ checks_of (input_tests input)) × Rendered (replay_text_of input) k after
+module _ (input room : List ℕ) {after : List ℕ} {r : Result ℕ Refusal} (w : Renders input room r after) where
+  pub input_accepted : transcript_most ≤ length room → {k : ℕ} → r ≡ Ok k
+      → (pass ≡ checks_of (input_tests input)) × Rendered (replay_text_of input) k after
   input_accepted h e =
-      rendered_length (input_tests input) (replay_text_of input) room (λ p. le_trans (text_fits input p) h) (subst (λ (x : Written). Renders input room x after) e w)
+      rendered_length (input_tests input) (replay_text_of input) room (λ p. le_trans (text_fits input p) h) (subst (λ (x : Result ℕ Refusal). Renders input room x after) e w)
 
-  pub input_refused : {x : Refusal} → r ≡ Refused x → C.Refused x ≡ checks_of (input_tests input)
-  input_refused e = rendered_refused (input_tests input) (replay_text_of input) room (subst (λ (x : Written). Renders input room x after) e w)
+  pub input_refused : {x : Refusal} → r ≡ Err x → Err x ≡ checks_of (input_tests input)
+  input_refused e = rendered_refused (input_tests input) (replay_text_of input) room (subst (λ (x : Result ℕ Refusal). Renders input room x after) e w)
 
   -- the room may be the caller's own, if it is always enough
   pub replays_whole : transcript_most ≤ length room → ReplaysText input room r after
   replays_whole h = by (checks_of (input_tests input)) refl
     where
       by : (c : Checked) → c ≡ checks_of (input_tests input) → ReplaysText input room r after
-      by C.Passed e =
+      by (Ok u) e =
           let is = when_passed (input_tests input) (replay_text_of input) room r after w e in
           let fits : length (replay_text_of input) ≤ length room = le_trans (text_fits input e) h in
-          subst (λ (x : Written). ReplaysText input room x after) (sym is.0)
+          subst (λ (x : Result ℕ Refusal). ReplaysText input room x after) (sym is.0)
           (onward_room_by (input_tests input) (room_test (length room) (length (replay_text_of input)) ∷ []) e refl
           (holds_room (le-leb _ _ fits) (answered_room refl refl is.1)))
-      by (C.Refused x) e =
+      by (Err x) e =
           let same = when_refused (input_tests input) (replay_text_of input) room r after w e in
-          subst (λ (y : Written). ReplaysText input room y after) (sym same)
+          subst (λ (y : Result ℕ Refusal). ReplaysText input room y after) (sym same)
           (stopped_room_by (input_tests input) (room_test (length room) (length (replay_text_of input)) ∷ []) e refl
           (w.room ∙ sym (judged_refused (λ y. room) (over room 0 (replay_text_of input)) (input_tests input) e)))
 
 -- ---- what is printed, by what the tests answer
 
 module _ (input : List ℕ) where
-  pub prints_text : C.Passed ≡ checks_of (input_tests input) → replay_text_of input ≡ printed_of input
+  pub prints_text : pass ≡ checks_of (input_tests input) → replay_text_of input ≡ printed_of input
   unfolding printed_of
   prints_text p = judged_passed refused_text_of (replay_text_of input) (input_tests input) p
 
-  pub prints_refused : {x : Refusal} → C.Refused x ≡ checks_of (input_tests input) → refused_text_of x ≡ printed_of input
+  pub prints_refused : {x : Refusal} → Err x ≡ checks_of (input_tests input) → refused_text_of x ≡ printed_of input
   unfolding printed_of
   prints_refused f = judged_refused refused_text_of (replay_text_of input) (input_tests input) f
 
@@ -154,15 +147,15 @@ pub printed_fits : (input : List ℕ) → length (printed_of input) ≤ transcri
 printed_fits input = by (checks_of (input_tests input)) refl
   where
     by : (c : Checked) → c ≡ checks_of (input_tests input) → length (printed_of input) ≤ transcript_most
-    by C.Passed e = omega (arith, text_fits input e, ap length (prints_text input e))
-    by (C.Refused x) e = omega (arith, refused_short x, ap length (prints_refused input e))
+    by (Ok u) e = omega (arith, text_fits input e, ap length (prints_text input e))
+    by (Err x) e = omega (arith, refused_short x, ap length (prints_refused input e))
 
-module _ (input : List ℕ) {out after : List ℕ} {r : Written} (p : Prints input out r after) (h : transcript_most ≤ length out) where
-  pub printed_whole : r ≡ Length (length (printed_of input))
+module _ (input : List ℕ) {out after : List ℕ} {r : Result ℕ Refusal} (p : Prints input out r after) (h : transcript_most ≤ length out) where
+  pub printed_whole : r ≡ Ok (length (printed_of input))
   printed_whole = fits_length (printed_of input) (le_trans (printed_fits input) h) p
 
-  pub printed_within : {k : ℕ} → r ≡ Length k → k ≤ length out
+  pub printed_within : {k : ℕ} → r ≡ Ok k → k ≤ length out
   printed_within {k} e =
-      let same : Length k ≡ Length (length (printed_of input)) = sym e ∙ printed_whole in
+      let same : Ok k ≡ Ok (length (printed_of input)) = sym e ∙ printed_whole in
       let count : k ≡ length (printed_of input) = cc in
       omega (arith, printed_fits input)

@@ -1,17 +1,16 @@
 -- What an entry tells of a result, from what it answers; and one state of each result, by the number and the score that are told of it.
 -- Assumes nothing.
-use Rattle.std.specs.Prelude.{◌≡◌, false, List, [], ◌∷◌, map, ℕ, ℤ, pos, Float}
+use Rattle.std.specs.Prelude.{◌≡◌, false, List, [], ◌∷◌, map, ℕ, ℤ, pos, Float, None, Result, Ok, Err}
 use Rattle.std.proofs.Common.{ap, ◌∙◌}
 use Rattle.std.specs.Float.{binary32}
 use Rattle.std.specs.Float.Ieee.{to_bits, of_bits, of_int, sub, div}
 use Rattle.laws.specs.Bits.{has, collect}
-use Rattle.refusal.specs.Judge.{Test, judged, Says}
+use Rattle.refusal.specs.declared.Refusal.{Refusal}
+use Rattle.refusal.specs.Judge.{Test, judged, Says, answering}
 use Rattle.refusal.specs.laws.Judge.{judged_map}
-use Rattle.action.specs.declared.price.Combo.TheVariants as C
 use Rattle.action.specs.Table.{action_of}
 use Rattle.craft_context.specs.declared.context.CraftContext.{CraftContext}
 use Rattle.craft_state.specs.declared.state.CraftState.{CraftState}
-use Rattle.craft_state.specs.declared.state.Last.TheVariants as L
 use Rattle.craft_state.specs.declared.state.Perfection.TheVariants as P
 use Rattle.craft_state.specs.Start.{no_buffs}
 use Rattle.moves.specs.Rules.{own_rule, strict_rule}
@@ -23,20 +22,16 @@ use Rattle.score.specs.Result.{judged_by}
 use Rattle.simulator.specs.declared.replay.Replay.{Replay}
 use Rattle.transcript.specs.laws.Worked.{craft}
 use Rattle.crafty.specs.Verdicts.{Verdict, verdict_in}
-use Rattle.crafty.specs.States.{resulted, verdicts_of, HasResult}
-use Rattle.crafty.specs.Replays.{replayed, verdicts_in}
-use Rattle.crafty.specs.declared.states.Judged.{Judged}
-use Rattle.crafty.specs.declared.states.Judged.TheVariants as J
-use Rattle.crafty.specs.declared.replays.Replayed.{Replayed}
-use Rattle.crafty.specs.declared.replays.Replayed.TheVariants as R
+use Rattle.crafty.specs.States.{verdicts_of, HasResult}
+use Rattle.crafty.specs.Replays.{verdicts_in}
 
-pub result_verdict : {tests : List Test} {result : CraftResult} {r : Judged} → Says resulted tests (J.Result result) r
+pub result_verdict : {tests : List Test} {result : CraftResult} {r : Result CraftResult Refusal} → Says answering tests (Ok result) r
     → verdicts_of r ≡ judged (λ x. []) (verdict_in result ∷ []) tests
-result_verdict {tests} {result} s = ap verdicts_of s.same ∙ judged_map verdicts_of J.Refused (J.Result result) tests
+result_verdict {tests} {result} s = ap verdicts_of s.same ∙ judged_map verdicts_of Err (Ok result) tests
 
-pub replay_verdict : {tests : List Test} {replay : Replay} {r : Replayed} → Says replayed tests (R.Report replay) r
+pub replay_verdict : {tests : List Test} {replay : Replay} {r : Result Replay Refusal} → Says answering tests (Ok replay) r
     → verdicts_in r ≡ judged (λ x. []) (verdict_in replay.result ∷ []) tests
-replay_verdict {tests} {replay} s = ap verdicts_in s.same ∙ judged_map verdicts_in R.Refused (R.Report replay) tests
+replay_verdict {tests} {replay} s = ap verdicts_in s.same ∙ judged_map verdicts_in Err (Ok replay) tests
 
 -- ---- one state of each result
 
@@ -48,11 +43,11 @@ at step progress durability =
       quality = 0;
       durability = durability;
       cp = 82;
-      previous_combo_action = C.Nothing;
+      previous_combo_action = None;
       quick_innovation_available = false;
       trained_perfection_active = P.Unused;
       buffs = no_buffs;
-      action = L.Nothing;
+      action = None;
     }
 
 -- what is told of an answer: the number, and the score's bits
@@ -69,7 +64,7 @@ told_by v = record { number = v.number; scores = map bits v.scores }
 -- of every answer of the entry `result`, plainly
 abbrev Tells : CraftContext → CraftState → ℕ → List ℕ → Type 0
 Tells context state number scores =
-    (r : Judged) → HasResult context state plain r → map told_by (verdicts_of r) ≡ record { number = number; scores = scores } ∷ []
+    (r : Result CraftResult Refusal) → HasResult context state plain r → map told_by (verdicts_of r) ≡ record { number = number; scores = scores } ∷ []
 
 -- no action is in the pool, and action 0 alone
 abbrev none : ℕ

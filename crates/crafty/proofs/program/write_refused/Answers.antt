@@ -2,7 +2,6 @@
 -- Assumes nothing.
 use mathlib.Core.Path.{ap, ◌∙◌}
 use native.Mathlib.Omega.{arith}
-use borrow.Author.Rules.{rules}
 use Rattle.refusal.specs.declared.Report.{Report}
 use Rattle.text.specs.Decimal.{decimal_of}
 use Rattle.text.specs.laws.Lengths.{right_none}
@@ -19,7 +18,7 @@ start_of c = (goal.at.After-put_byte-k c).Start
 line : (c : After-put_byte-k) → Rendered (refused_text_of (start_of c).args.x) c.put_byte-k.result c.put_byte-k.new.out
 unfolding refused_text_of
 line c =
-    let digits = put_as (right_none _ ∙ ap (λ (r : Report). decimal_of r.0) c.reported-report.ensures) c.put_number-end.ensures.0 in
+    let digits = put_as (right_none _ ∙ ap decimal_of (c.from.ensures ∙ ap (λ (r : Report). r.0) c.reported-report.ensures)) c.put_number-end.ensures.0 in
     let text = then (then c.put-number.ensures digits) c.put_byte-k.ensures in
     rendered text (omega (arith, text.next, c.put-number.ensures.next, c.put_number-end.ensures.1, c.put_byte-k.ensures.next))
 

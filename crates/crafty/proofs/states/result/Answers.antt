@@ -1,27 +1,25 @@
 -- `crafty::states::result` meets its contract.
 -- Assumes nothing.
-use mathlib.Core.Path.{refl, ap}
-use mathlib.Core.List.{[]}
-use borrow.Author.Rules.{rules}
-use Rattle.refusal.specs.laws.Judge.{stopped_by_lem, onward_by, answered}
-use Rattle.craft_state.specs.Limits.{given_tests}
+use Rattle.std.specs.Prelude.{Ok}
+use Rattle.std.proofs.Common.{[], refl, ap}
+use Rattle.std.proofs.lemmas.Result.{IfOk-from_err}
+use Rattle.refusal.specs.laws.Judge.{answered}
+use Rattle.score.specs.Result.{ScoreIsNumber}
 use Rattle.craft_state.specs.laws.Inside.{craft_in}
 use Rattle.crafty.specs.laws.Verdicts.{result_verdict}
-use Rattle.crafty.specs.declared.states.Judged.TheVariants.{Result}
+use Rattle.craft_state.specs.Limits.{given_tests}
+use Rattle.crafty.specs.laws.Ways.{refused_by, passed_by}
 use Rattle.crafty.proofs.states.result.Goals as goal
 
-pub returns-in-Refused : goal.returns-in-Refused
-returns-in-Refused c =
-    let s = stopped_by_lem (given_tests c.args.context c.args.state) [] c.check-given.ensures.same c.in-Refused.is in
-    record { says = s; verdict = result_verdict s; score = tt }
+pub returns-in_err-check : goal.returns-in_err-check
+returns-in_err-check c =
+    let s = refused_by (given_tests c.args.context c.args.state) [] c.in_err-check.ensures.same c.from_residual.ensures in
+    record { says = s; verdict = result_verdict s; score = IfOk-from_err c.from_residual.result ScoreIsNumber c.from_residual.ensures.0 }
 
-pub check_result-requires : goal.check_result-requires
-check_result-requires c = craft_in _ _ c.check-given.ensures.same c.in_default.is
+pub invariant_of-craft : goal.invariant_of-craft
+invariant_of-craft c = record { inside = craft_in _ _ c.in_ok-check.ensures.same refl }
 
 pub returns : goal.returns
 returns c =
-    let s =
-    onward_by (given_tests c.args.context c.args.state) [] c.check-given.ensures.same c.in_default.is
-    (answered refl (ap Result c.check_result.ensures.0))
-    in
+    let s = passed_by (given_tests c.args.context c.args.state) [] c.in_ok-check.ensures.same (answered refl (ap Ok c.check_result.ensures.0)) in
     record { says = s; verdict = result_verdict s; score = c.check_result.ensures.1 }

@@ -1,84 +1,81 @@
 -- `crafty::states::step` meets its contract.
 -- Assumes nothing.
-use mathlib.Core.Path.{◌≡◌, refl, ap, sym, ◌∙◌}
-use mathlib.Core.Bool.{Bool}
-use mathlib.Core.List.{List, [], ◌∷◌, ◌++◌}
-use Prim.Native.Nat.{◌<◌}
-use borrow.Author.Rules.{rules}
-use Rattle.refusal.specs.Judge.{Test, Says}
-use Rattle.refusal.specs.laws.Judge.{stopped, stopped_by_lem, onward, onward_by, answered}
+use Rattle.std.proofs.Common.{◌≡◌, Bool, [], ◌∷◌, ◌++◌, ◌<◌, refl, ap, sym, ◌∙◌}
+use Rattle.std.specs.Prelude.{Result, Ok}
+use Rattle.refusal.specs.declared.Refusal.{Refusal}
+use Rattle.refusal.specs.Judge.{Says, answering}
+use Rattle.refusal.specs.laws.Judge.{alone, onward, answered, fails, holds}
 use Rattle.laws.specs.Bits.{has}
 use Rattle.action.specs.Known.{actions, action_test}
 use Rattle.action.specs.Table.{attributes_of}
 use Rattle.action.specs.laws.Bounds.{rows_bounded}
 use Rattle.action.specs.laws.Known.{action_shown}
+use Rattle.craft_state.specs.declared.state.CraftState.{CraftState}
 use Rattle.craft_state.specs.Limits.{given_tests}
 use Rattle.craft_state.specs.Inside.{CraftIn}
 use Rattle.craft_state.specs.laws.Inside.{craft_in}
-use Rattle.step.specs.Step.{executed_of, execute_of}
+use Rattle.step.specs.Step.{executed_of}
 use Rattle.moves.specs.Moves.{moves_of}
 use Rattle.moves.specs.inner.Legal.{legal_of}
 use Rattle.moves.specs.laws.Moves.{has_moves, legal_playable}
-use Rattle.crafty.specs.States.{stepped, legal_test}
-use Rattle.crafty.specs.declared.states.Stepped.{Stepped}
-use Rattle.crafty.specs.declared.states.Stepped.TheVariants.{To}
+use Rattle.crafty.specs.States.{legal_test}
+use Rattle.crafty.specs.laws.Ways.{refused_by, passed_by}
 use Rattle.crafty.proofs.states.step.Goals as goal
-use Rattle.crafty.proofs.states.step.Goals.{After-is_legal, In_default, In_default-known, Start}
+use Rattle.crafty.proofs.states.step.Goals.{After-is_legal, In_ok-check, In_ok-check_action}
 
--- the tests that come after those of context and state
-later : Start → List Test
-later s = action_test s.args.n ∷ legal_test s.args.context s.args.state s.args.mode s.args.n ∷ []
+-- context and state are inside the limits, and the action is known
+inside : (c : In_ok-check) → CraftIn c.args.context c.args.state
+inside c = craft_in _ _ c.in_ok-check.ensures.same refl
 
-answer : Start → Stepped
-answer s = To (execute_of s.args.context s.args.state s.args.n)
+known : (c : In_ok-check_action) → c.args.n < actions
+known c = action_shown c.in_ok-check_action.ensures refl
 
--- context and state are inside the limits, so the later tests decide
-inside : (c : In_default) → CraftIn c.args.context c.args.state
-inside c = craft_in _ _ c.check-given.ensures.same c.in_default.is
-
-began : (c : In_default) {r : Stepped}
-    → Says stepped (later (goal.at.In_default c).Start) (answer (goal.at.In_default c).Start) r
-    → Says stepped (given_tests c.args.context c.args.state ++ later (goal.at.In_default c).Start) (answer (goal.at.In_default c).Start) r
-began c h = onward_by (given_tests c.args.context c.args.state) (later (goal.at.In_default c).Start) c.check-given.ensures.same c.in_default.is h
-
--- the action is known
-known : (c : In_default-known) → c.args.n < actions
-known c = action_shown c.check_action-known.ensures c.in_default-known.is
+-- so the last test decides
+began : (c : In_ok-check_action) {answer r : Result CraftState Refusal}
+    → Says answering (legal_test c.args.context c.args.state c.args.mode c.args.n ∷ []) answer r
+    → Says answering (given_tests c.args.context c.args.state ++ (action_test c.args.n ∷ legal_test c.args.context c.args.state c.args.mode c.args.n ∷ [])) answer r
+began c h =
+    passed_by (given_tests c.args.context c.args.state) _ (goal.at.In_ok-check_action c).In_ok-check.in_ok-check.ensures.same
+    (onward c.in_ok-check_action.ensures refl h)
 
 -- the test of the candidate by its row of the table is its place among the moves
-tested : (c : After-is_legal) {b : Bool}
-    → c.is_legal.result ≡ b → has (moves_of c.args.context c.args.state c.args.mode) c.args.n ≡ b
+tested : (c : After-is_legal) {b : Bool} → c.is_legal.result ≡ b → has (moves_of c.args.context c.args.state c.args.mode) c.args.n ≡ b
 tested c e =
-    let legal = legal_of c.args.context c.args.state c.args.mode c.args.n in
-    has_moves attributes_of c.args.context c.args.state c.args.mode c.args.n (known (goal.at.After-is_legal c).In_default-known)
-    ∙ sym (ap legal c.attributes_of-row.ensures)
+    has_moves attributes_of c.args.context c.args.state c.args.mode c.args.n (known (goal.at.After-is_legal c).In_ok-check_action)
+    ∙ sym (ap (legal_of c.args.context c.args.state c.args.mode c.args.n) c.attributes_of-row.ensures)
     ∙ sym c.is_legal.ensures
     ∙ e
 
-pub returns-in-Refused : goal.returns-in-Refused
-unfolding later answer
-returns-in-Refused c = stopped_by_lem (given_tests c.args.context c.args.state) (later (goal.at.returns-in-Refused c).Start) c.check-given.ensures.same c.in-Refused.is
-
-pub returns-in-Refused-known : goal.returns-in-Refused-known
-unfolding later answer
-returns-in-Refused-known c = began (goal.at.returns-in-Refused-known c).In_default (stopped c.check_action-known.ensures c.in-Refused-known.is)
+pub invariant_of-craft : goal.invariant_of-craft
+invariant_of-craft c = record { inside = inside (goal.at.invariant_of-craft c).In_ok-check }
 
 pub is_legal-requires : goal.is_legal-requires
-unfolding later answer
-is_legal-requires c = (inside (goal.at.is_legal-requires c).In_default, known (goal.at.is_legal-requires c).In_default-known, rw c.attributes_of-row.ensures (rows_bounded _ (known (goal.at.is_legal-requires c).In_default-known)))
+is_legal-requires c =
+    let n = known (goal.at.is_legal-requires c).In_ok-check_action in
+    (n, rw c.attributes_of-row.ensures (rows_bounded _ n))
 
-pub execute_single-requires : goal.execute_single-requires
-unfolding later answer
-execute_single-requires c =
+pub execute-requires : goal.execute-requires
+execute-requires c =
+    let n = known (goal.at.execute-requires c).In_ok-check_action in
     rw c.attributes_of-row.ensures
-    (legal_playable attributes_of rows_bounded _ _ _ _ (inside (goal.at.execute_single-requires c).In_default) (known (goal.at.execute_single-requires c).In_default-known) (tested (goal.at.execute_single-requires c).After-is_legal c.if-is_legal.true), rows_bounded _ (known (goal.at.execute_single-requires c).In_default-known))
+    (legal_playable attributes_of rows_bounded _ _ _ _ (inside (goal.at.execute-requires c).In_ok-check) n (tested (goal.at.execute-requires c).After-is_legal c.if-is_legal.true), rows_bounded _ n)
 
 pub returns-then-is_legal : goal.returns-then-is_legal
-unfolding later answer
 returns-then-is_legal c =
-    let to = c.execute_single.ensures ∙ ap (executed_of _ _ _) c.attributes_of-row.ensures in
-    began (goal.at.returns-then-is_legal c).In_default (onward c.check_action-known.ensures c.in_default-known.is (onward (rw (tested (goal.at.returns-then-is_legal c).After-is_legal c.if-is_legal.true)) refl (answered refl (ap To to))))
+    let to = c.execute.ensures ∙ ap (executed_of _ _ _) c.attributes_of-row.ensures in
+    began (goal.at.returns-then-is_legal c).In_ok-check_action
+    (holds (tested (goal.at.returns-then-is_legal c).After-is_legal c.if-is_legal.true) (answered refl (ap Ok to)))
 
 pub returns : goal.returns
-unfolding later answer
-returns c = began (goal.at.returns c).In_default (onward c.check_action-known.ensures c.in_default-known.is (stopped (rw (tested (goal.at.returns c).After-is_legal c.if-is_legal.false)) refl))
+returns c = began (goal.at.returns c).In_ok-check_action (fails (tested (goal.at.returns c).After-is_legal c.if-is_legal.false))
+
+pub returns-in_err-check : goal.returns-in_err-check
+returns-in_err-check c =
+    refused_by (given_tests c.args.context c.args.state) (action_test c.args.n ∷ legal_test c.args.context c.args.state c.args.mode c.args.n ∷ [])
+    c.in_err-check.ensures.same c.from_residual.ensures
+
+pub returns-in_err-check_action : goal.returns-in_err-check_action
+returns-in_err-check_action c =
+    let legal = legal_test c.args.context c.args.state c.args.mode c.args.n ∷ [] in
+    passed_by (given_tests c.args.context c.args.state) (action_test c.args.n ∷ legal) (goal.at.returns-in_err-check_action c).In_ok-check.in_ok-check.ensures.same
+    (refused_by (action_test c.args.n ∷ []) legal (alone (action_test c.args.n) c.in_err-check_action.ensures) c.from_residual-in_err-check_action.ensures)
