@@ -1,6 +1,6 @@
 -- For the contracts of inner functions: what each step of an iteration asks, and what it answers.
 -- Assumes nothing.
-use Rattle.std.specs.Prelude.{◌≡◌, ℕ, zero, suc, ◌+◌, ◌-◌, ◌<◌, ◌≤◌, Bool, true, cond, ◌&&◌, List, [], ◌∷◌, length, drop, nat_le, Float, Result, Ok, Err}
+use Rattle.std.specs.Prelude.{◌≡◌, ℕ, zero, suc, ◌+◌, ◌-◌, ◌<◌, ◌≤◌, true, cond, List, [], ◌∷◌, length, drop, nat_le, Float, Result, Ok, Err}
 use Rattle.std.specs.Float.Ieee.{to_unsigned}
 use Rattle.refusal.specs.declared.Refusal.{Refusal}
 use Rattle.refusal.specs.declared.Refusal.TheVariants.{NoRoom}
@@ -15,7 +15,6 @@ use Rattle.moves.specs.Moves.{moves_of}
 use Rattle.score.specs.declared.result.CraftResult.{CraftResult}
 use Rattle.rollout.specs.Rollout.{Rolled, rolled_from, sampled_of, drawn_state, strict_moves}
 use Rattle.tree.specs.declared.node.Node.{Node}
-use Rattle.tree.specs.Node.{plus_zero}
 use Rattle.tree.specs.Sound.{is_count}
 use Rattle.tree.specs.Tree.{node_at, back_of, planted_of}
 use Rattle.tree.specs.Refusals.{new_count}

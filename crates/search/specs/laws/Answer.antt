@@ -1,7 +1,7 @@
 -- THE theorems of the entry, of the statement by which it answers: what a search that found a path has left and answered, and what one that was refused has.
 -- Assumes nothing.
 use Rattle.std.specs.Prelude.{◌≡◌, ℕ, ◌<◌, ◌≤◌, true, ◌⊎◌, List, [], ◌∷◌, length, take, refl, Float, Ok, Err}
-use Rattle.std.proofs.Common.{sym, ap, subst, ◌∙◌, inl, inr, zero-add, arith, leb-true}
+use Rattle.std.proofs.Common.{sym, ap, subst, ◌∙◌, inl, inr, zero-add, leb-true}
 use Rattle.laws.specs.Floats.{float}
 use Rattle.laws.specs.laws.Tests.{both}
 use Rattle.refusal.specs.declared.Refusal.{Refusal}

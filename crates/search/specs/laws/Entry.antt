@@ -25,7 +25,6 @@ use Rattle.tree.specs.Tree.{planted_of, is_sound, end_of}
 use Rattle.tree.specs.laws.Tree.{of_tree}
 use Rattle.search.specs.declared.options.SearchOptions.{SearchOptions}
 use Rattle.search.specs.declared.entry.Progress.{Progress}
-use Rattle.search.specs.declared.entry.Found.{Found}
 use Rattle.search.specs.Search.{Outcome, grow_of, no_progress, progress_of, path_of, found_of, asked_tests, settled_by, path_tests, Searched, searched_told, searched_of, Searches}
 use Rattle.search.specs.inner.Grown.{Growing}
 use Rattle.search.specs.inner.Ready.{Started, grown_by, GrowsTo}

@@ -12,9 +12,9 @@ use Rattle.search.specs.declared.options.SearchOptions.{SearchOptions}
 use Rattle.search.specs.declared.iterate.Turned.{Turned}
 use Rattle.search.specs.declared.entry.Progress.{Progress}
 use Rattle.search.specs.Iterate.{Growth, Turn, Goes, Stops, iterate_of}
-use Rattle.search.specs.Search.{Outcome, on_turn, grow_from, progress_of}
+use Rattle.search.specs.Search.{Outcome, on_turn, grow_from}
 use Rattle.search.specs.inner.Links.{linked, Links}
-use Rattle.search.specs.inner.Ready.{Ready, turned_of, records_after, count_after, Turns, Started, outcome_from, grown_by, GrowsTo}
+use Rattle.search.specs.inner.Ready.{Ready, turned_of, records_after, count_after, Turns, Started, outcome_from, GrowsTo}
 use Rattle.search.specs.laws.Asked.{Asked}
 use Rattle.search.specs.laws.Planted.{planted_growing, planted_visited}
 use Rattle.search.specs.laws.Links.{links_none}

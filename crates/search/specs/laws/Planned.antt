@@ -4,7 +4,6 @@
 use Rattle.std.specs.Prelude.{◌≡◌, ℕ, zero, suc, ◌+◌, ◌-◌, ◌<◌, ◌≤◌, Bool, true, false, cond, List, [], ◌∷◌, length, drop, ◌==◌, nat_le, nat_lt, Float, Result, Ok, Err}
 use Rattle.std.proofs.Math.Path.{refl}
 use Rattle.std.proofs.Common.{sym, ap, ◌∙◌, arith, leb-true, ltb-true}
-use Rattle.laws.specs.laws.Tests.{true_false}
 use Rattle.refusal.specs.declared.Refusal.{Refusal}
 use Rattle.refusal.specs.declared.Refusal.TheVariants.{NoRoom, NoDraw, DrawTooHigh}
 use Rattle.action_set.specs.Sets.{size_of}
@@ -19,11 +18,10 @@ use Rattle.tree.specs.Tree.{node_at, max_at}
 use Rattle.search.specs.declared.options.SearchOptions.{SearchOptions}
 use Rattle.search.specs.declared.select.Chosen.{Chosen}
 use Rattle.search.specs.declared.plan.Plan.{Plan}
-use Rattle.search.specs.declared.iterate.Turned.{Turned}
 use Rattle.search.specs.Select.{select_of, state_at}
 use Rattle.search.specs.Iterate.{score_in, is_worth, Growth, Turn, Goes, Stops, rolled_of, grown_of, turn_by, iterate_of}
 use Rattle.search.specs.inner.Ready.{Ready, chosen_of, passed_plan, plan_by, plan_of, Drawable, Storing, Carried}
-use Rattle.search.specs.inner.Ready.{turned_of, records_after, count_after, Turns}
+use Rattle.search.specs.inner.Ready.{Turns}
 use Rattle.search.specs.laws.Legal.{unused_set, unused_plain, grown_timely}
 use Rattle.search.specs.laws.Iterate.{stored_by, stored_most, Grows, selected_inside, rolled_place, rolls}
 

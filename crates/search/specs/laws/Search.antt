@@ -7,7 +7,6 @@ use Rattle.std.proofs.Math.Path.{refl}
 use Rattle.std.proofs.Common.{sym, ap, ◌∙◌, take-take}
 use Rattle.std.proofs.Math.Nat.{le_refl}
 use native.Mathlib.Omega.{arith}
-use Rattle.refusal.specs.declared.Refusal.{Refusal}
 use Rattle.refusal.specs.Judge.{pass}
 use Rattle.refusal.specs.laws.Judge.{refused_passed}
 use Rattle.craft_context.specs.declared.context.CraftContext.{CraftContext}
