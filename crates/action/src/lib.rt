@@ -14,7 +14,7 @@ mod wear;
 pub use gain::{calc_progress_increase, calc_quality_increase};
 pub use known::{check_action, check_list};
 pub use names::from_name;
-pub use price::{Combo, calc_cp_cost, charged};
+pub use price::{Combo, calc_cp_cost, can_pay, charged};
 pub use table::{Attributes, attributes_of};
 pub use texts::{TEXT_MOST, Text, put_text};
 pub use waits::wait;

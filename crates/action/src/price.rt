@@ -1,7 +1,7 @@
 // What an action costs in points, by the combo that it continues.
 ghost use Rattle.std.specs.Prelude.{◌≡◌};
 ghost use Rattle.action.specs.Actions.{StandardTouch as StandardTouch_action, AdvancedTouch as AdvancedTouch_action};
-ghost use Rattle.action.specs.Price.{discounted_by, price_of, charged_of};
+ghost use Rattle.action.specs.Price.{discounted_by, price_of, charged_of, affordable};
 
 use super::{ADVANCED_TOUCH, STANDARD_TOUCH};
 
@@ -42,4 +42,14 @@ pub fn charged(n: u8, combo: Option<Combo>, cost: Option<u32>) -> Option<u32>
         return None;
     };
     Some(calc_cp_cost(n, combo, base_cost))
+}
+
+// So many points are enough for a price. No cost counts 0.
+pub fn can_pay(points: u32, price: Option<u32>) -> bool
+    ensures { result ≡ affordable points price }
+{
+    let Some(cost) = price else {
+        return true;
+    };
+    cost <= points
 }
