@@ -1,14 +1,12 @@
 -- Document 01, Results and scores: replay "reports the state, its moves, the result and the number executed". These as numbers, in the order that
 -- include/crafty.h gives; and a state alone, which the search of document 02, E7, answers.
 -- Assumes nothing.
-use Rattle.std.specs.Prelude.{Bool, cond, List, [], ◌∷◌, ℕ, ◌-◌, ◌^◌, ℤ, pos, negsuc}
+use Rattle.std.specs.Prelude.{Bool, cond, List, [], ◌∷◌, ℕ, ◌-◌, ◌^◌, ℤ, pos, negsuc, Option, None, Some}
 use Rattle.std.specs.Float.{binary32}
 use Rattle.std.specs.Float.Ieee.{to_bits}
 use Rattle.action.specs.Known.{actions}
 use Rattle.action.specs.Price.{combo_number}
 use Rattle.craft_state.specs.declared.state.CraftState.{CraftState}
-use Rattle.craft_state.specs.declared.state.Last.{Last}
-use Rattle.craft_state.specs.declared.state.Last.TheVariants as L
 use Rattle.craft_state.specs.Perfection.{perfection_number}
 use Rattle.score.specs.declared.result.CraftResult.{CraftResult}
 use Rattle.score.specs.declared.result.CraftResult.TheVariants as R
@@ -34,9 +32,9 @@ word_of (pos n) = n
 word_of (negsuc k) = 2 ^ 32 - 1 - k
 
 -- none is one past the actions
-abbrev pub last_number : Last → ℕ
-last_number L.Nothing = actions
-last_number (L.Was n) = n
+abbrev pub last_number : Option ℕ → ℕ
+last_number None = actions
+last_number (Some n) = n
 
 abbrev pub flag_number : Bool → ℕ
 flag_number b = cond b 1 0

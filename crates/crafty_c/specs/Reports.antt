@@ -17,12 +17,8 @@ abbrev pub report_tests : List ℕ → List ℕ → List Test
 report_tests list out = list_test list ∷ room_test (length out) numbers_length ∷ []
 
 -- what is written from the start of the lent numbers, and none further
-abbrev reported : CraftContext → Mode → List ℕ → List ℕ → List ℕ
+abbrev pub reported : CraftContext → Mode → List ℕ → List ℕ → List ℕ
 reported context mode list out = over out 0 (replay_numbers (replay_of context mode list))
-
--- in a context inside its limits
-abbrev pub Reports : CraftContext → Mode → List ℕ → List ℕ → CraftyAnswer → List ℕ → Type 0
-Reports context mode list out r after = Writes answered (report_tests list out) (done_of numbers_length) out (reported context mode list out) r after
 
 -- in a context given by its numbers: refusal 1 for one that does not fit its field or is outside its limit
 abbrev pub TellsNumbers : List ℕ → Mode → List ℕ → List ℕ → CraftyAnswer → List ℕ → Type 0

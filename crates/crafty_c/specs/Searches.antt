@@ -1,7 +1,7 @@
 -- Document 02, E7, for hosts: what the search answers, of a context given by its numbers, and what the records and the room for the path hold then. As its
 -- entry in search, told in numbers: "An iteration that is refused stores nothing, earlier ones stand, and their number is returned".
 -- Assumes nothing.
-use Rattle.std.specs.Prelude.{◌≡◌, List, ◌++◌, ℕ, Float}
+use Rattle.std.specs.Prelude.{◌≡◌, List, ◌++◌, ℕ, Float, Ok, Err}
 use Rattle.refusal.specs.declared.Refusal.{Refusal}
 use Rattle.refusal.specs.declared.Report.{Report}
 use Rattle.refusal.specs.Report.{report_of}
@@ -13,9 +13,7 @@ use Rattle.tree.specs.declared.node.Node.{Node}
 use Rattle.search.specs.declared.options.SearchOptions.{SearchOptions}
 use Rattle.search.specs.declared.entry.Progress.{Progress}
 use Rattle.search.specs.declared.entry.Found.{Found}
-use Rattle.search.specs.declared.entry.Searched.{Searched}
-use Rattle.search.specs.declared.entry.Searched.TheVariants as S
-use Rattle.search.specs.Search.{no_progress, asked_tests, searched_told, searched_of, records_of, room_of}
+use Rattle.search.specs.Search.{no_progress, asked_tests, Searched, searched_told, searched_of, records_of, room_of}
 use Rattle.crafty_c.specs.declared.numbers.CraftyState.{CraftyState}
 use Rattle.crafty_c.specs.declared.searches.CraftyFound.{CraftyFound}
 use Rattle.crafty_c.specs.Answer.{refused_of, report_in}
@@ -57,8 +55,8 @@ found_at progress found =
 
 -- the state of a refusal is the start's
 abbrev pub told_of : CraftContext → Searched → CraftyFound
-told_of c (S.Found progress found) = found_at progress found
-told_of c (S.Refused x progress) = stopped_of x progress (state_of (start_of c))
+told_of c (Ok done) = found_at done.0 done.1
+told_of c (Err done) = stopped_of done.0 done.1 (state_of (start_of c))
 
 -- the number and value, read off it
 abbrev pub found_told : CraftyFound → Report

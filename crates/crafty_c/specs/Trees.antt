@@ -1,55 +1,35 @@
 -- Document 01, Tree, for hosts: what each function over a host's records answers, and what the records or the lent room hold then. As its entry in
 -- tree, told in numbers.
 -- Assumes nothing.
-use Rattle.std.specs.Prelude.{List, ℕ, Float, length}
+use Rattle.std.specs.Prelude.{List, ℕ, Float, length, Result, Ok, Err}
 use Rattle.refusal.specs.declared.Refusal.{Refusal}
 use Rattle.refusal.specs.declared.Report.{Report}
 use Rattle.refusal.specs.Judge.{Kind, Writes}
 use Rattle.text.specs.Over.{over}
 use Rattle.tree.specs.declared.node.Node.{Node}
-use Rattle.tree.specs.declared.grow.Planted.{Planted}
-use Rattle.tree.specs.declared.grow.Planted.TheVariants as P
-use Rattle.tree.specs.declared.grow.Inserted.{Inserted}
-use Rattle.tree.specs.declared.grow.Inserted.TheVariants as I
-use Rattle.tree.specs.declared.back.Propagated.{Propagated}
-use Rattle.tree.specs.declared.back.Propagated.TheVariants as B
-use Rattle.tree.specs.declared.paths.Offspring.{Offspring}
-use Rattle.tree.specs.declared.paths.Offspring.TheVariants as L
-use Rattle.tree.specs.declared.paths.Solved.{Solved}
-use Rattle.tree.specs.declared.paths.Solved.TheVariants as S
 use Rattle.tree.specs.Tree.{planted_of, inserted_of, children_of, back_of, solution_of, end_of}
 use Rattle.tree.specs.Refusals.{new_count, new_tests, insert_tests, children_tests, back_tests, solution_tests}
 use Rattle.tree.specs.Grow.{Changes}
 use Rattle.crafty_c.specs.declared.answer.CraftyAnswer.{CraftyAnswer}
 use Rattle.crafty_c.specs.declared.trees.CraftySolution.{CraftySolution}
-use Rattle.crafty_c.specs.Answer.{done_of, refused_of, report_in, answered}
+use Rattle.crafty_c.specs.Answer.{done_of, refused_of, answer_by, report_in, answered}
 
 -- ---- the answers in numbers: of a new tree its count, of an insertion the new record's number, of a back-propagation nothing, of children how many
 
-abbrev pub planted_answer : Planted → CraftyAnswer
-planted_answer (P.Count count) = done_of count
-planted_answer (P.Refused x) = refused_of x
+abbrev pub inserted_answer : Result (ℕ × ℕ) Refusal → CraftyAnswer
+inserted_answer r = answer_by (λ at. at.0) r
 
-abbrev pub inserted_answer : Inserted → CraftyAnswer
-inserted_answer (I.At number count) = done_of number
-inserted_answer (I.Refused x) = refused_of x
-
-abbrev pub propagated_answer : Propagated → CraftyAnswer
-propagated_answer B.Done = done_of 0
-propagated_answer (B.Refused x) = refused_of x
-
-abbrev pub listed_answer : Offspring → CraftyAnswer
-listed_answer (L.Children len) = done_of len
-listed_answer (L.Refused x) = refused_of x
+abbrev pub propagated_answer : Result Unit Refusal → CraftyAnswer
+propagated_answer r = answer_by (λ u. 0) r
 
 -- of a solution its length and the last node
 
 abbrev pub solved_at : CraftyAnswer → ℕ → CraftySolution
 solved_at answer node = record { number = answer.number; value = answer.value; node = node }
 
-abbrev pub solved_answer : Solved → CraftySolution
-solved_answer (S.Solution len last) = solved_at (done_of len) last
-solved_answer (S.Refused x) = solved_at (refused_of x) 0
+abbrev pub solved_answer : Result (ℕ × ℕ) Refusal → CraftySolution
+solved_answer (Ok found) = solved_at (done_of found.0) found.1
+solved_answer (Err x) = solved_at (refused_of x) 0
 
 abbrev solution_report : CraftySolution → Report
 solution_report s = report_in (record { number = s.number; value = s.value })

@@ -1,9 +1,8 @@
 // What every function answers.
 ghost use Rattle.std.specs.Prelude.{◌≡◌};
-ghost use Rattle.crafty_c.specs.Answer.{also_value, done_of, refused_of, wrote_of, lasted_of};
+ghost use Rattle.crafty_c.specs.Answer.{done_of, refused_of, answer_of};
 
-use crafty::{Lasting, Written};
-use refusal::{Also, Refusal};
+use refusal::Refusal;
 
 // Document 01's number, 0 for success, and a value: what also comes back with a refusal, or of a success how much was written,
 // or a list's seconds.
@@ -20,43 +19,22 @@ pub fn done(value: usize) -> CraftyAnswer
     CraftyAnswer { number: 0, value }
 }
 
-fn value_in(also: Also) -> usize
-    ensures { result ≡ also_value also }
-{
-    match also {
-        Also::Nothing => 0,
-        Also::Value(value) => value,
-    }
-}
-
 pub fn refused(x: Refusal) -> CraftyAnswer
     ensures { result ≡ refused_of x }
 {
     let report = x.reported();
-    let number = report.0;
-    let also = report.1;
     CraftyAnswer {
-        number: number as u32,
-        value: value_in(also),
+        number: u32::from(report.0),
+        value: report.1.unwrap_or(0),
     }
 }
 
-// The answer of an entry that writes.
-pub fn wrote(written: Written) -> CraftyAnswer
-    ensures { result ≡ wrote_of written }
+// The answer of an entry, by what is told of its success.
+pub fn answer(told: Result<usize, Refusal>) -> CraftyAnswer
+    ensures { result ≡ answer_of told }
 {
-    match written {
-        Written::Length(length) => done(length),
-        Written::Refused(x) => refused(x),
-    }
-}
-
-// The answer of a list's macro time, whose value is its seconds.
-pub fn lasted(lasting: Lasting) -> CraftyAnswer
-    ensures { result ≡ lasted_of lasting }
-{
-    match lasting {
-        Lasting::Seconds(seconds) => done(seconds as usize),
-        Lasting::Refused(x) => refused(x),
+    match told {
+        Ok(value) => done(value),
+        Err(x) => refused(x),
     }
 }

@@ -2,7 +2,7 @@
 // Every function takes any of these, and refuses by a fixed number; a refusal leaves what was lent as it was, but for the records of the iterations that a
 // search did before it.
 
-#![tactic(auto)]
+#![tactic(auto, unfolding(refusal::specs::Judge::judged))]
 
 mod answer;
 mod numbers;

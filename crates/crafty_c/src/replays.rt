@@ -3,42 +3,34 @@ ghost use Rattle.std.specs.Prelude.{[], ◌∷◌};
 ghost use Rattle.craft_context.specs.Limits.{ContextIn};
 ghost use Rattle.context_line.specs.inner.Fields.{listed};
 ghost use Rattle.moves.specs.Modes.{mode_of};
-ghost use Rattle.crafty_c.specs.Reports.{Reports, TellsNumbers};
+ghost use Rattle.crafty_c.specs.Reports.{TellsNumbers};
+ghost use Rattle.crafty_c.specs.inner.Reports.{Reports, ReportsNumbers};
 
-use super::answer::{CraftyAnswer, done, refused};
+use super::answer::{CraftyAnswer, answer};
 use super::numbers::{NUMBERS, numbers, put_numbers};
-use context_line::{Fields, Read};
+use context_line::Fields;
 use craft_context::CraftContext;
 use moves::Mode;
-use refusal::Checked;
+use refusal::Refusal;
 
 // In a context inside its limits.
-fn report(context: CraftContext, mode: Mode, list: &[u8], out: &mut [u32]) -> CraftyAnswer
+fn report(context: CraftContext, mode: Mode, list: &[u8], out: &mut [u32]) -> Result<usize, Refusal>
     requires { ContextIn context }
     ensures { Reports context mode list.now out.old result out.new }
 {
-    let known = action::check_list(list);
-    if let Checked::Refused(x) = known {
-        return refused(x);
-    }
-    let room = refusal::check_room(out.len(), NUMBERS);
-    if let Checked::Refused(x) = room {
-        return refused(x);
-    }
+    action::check_list(list)?;
+    refusal::check_room(out.len(), NUMBERS)?;
     let told = numbers(simulator::execute_actions(context, mode, list));
     put_numbers(out, &told);
-    done(NUMBERS)
+    Ok(NUMBERS)
 }
 
 // In a context given by the numbers of its fields.
-fn replay(numbers: Fields, mode: Mode, list: &[u8], out: &mut [u32]) -> CraftyAnswer
-    ensures { TellsNumbers (listed numbers) mode list.now out.old result out.new }
+fn replay(numbers: Fields, mode: Mode, list: &[u8], out: &mut [u32]) -> Result<usize, Refusal>
+    ensures { ReportsNumbers (listed numbers) mode list.now out.old result out.new }
 {
-    let read = context_line::from_fields(numbers);
-    match read {
-        Read::Context(context) => report(context, mode, list, out),
-        Read::Refused(x) => refused(x),
-    }
+    let context = context_line::from_fields(numbers)?;
+    report(context, mode, list, out)
 }
 
 #[unsafe(no_mangle)]
@@ -82,5 +74,5 @@ pub extern "C" fn crafty_replay(
         use_delineation,
     };
     let mode = moves::mode_of(strict);
-    replay(numbers, mode, list, out)
+    answer(replay(numbers, mode, list, out))
 }

@@ -5,12 +5,12 @@ ghost use Rattle.crafty_c.specs.Searches.{stopped_of, outside_of, found_at, told
 ghost use Rattle.crafty_c.specs.inner.Searches.{FindsIn};
 
 use super::answer::refused;
-use super::numbers::{CraftyState, no_state, state_numbers};
-use context_line::{Fields, Read};
+use super::numbers::{CraftyState, state_numbers};
+use context_line::Fields;
 use craft_context::CraftContext;
 use craft_state::fresh;
 use refusal::Refusal;
-use search::{Found, Progress, SearchOptions, Searched, search};
+use search::{Found, Progress, SearchOptions, search};
 use tree::Node;
 
 // What `crafty_search` answers: beside the number and value, what was done, the path's length, its last node, and the state there.
@@ -48,18 +48,12 @@ fn stopped(x: Refusal, progress: Progress, state: CraftyState) -> CraftyFound
 fn outside(x: Refusal) -> CraftyFound
     ensures { result ≡ outside_of x }
 {
-    let none = Progress {
-        iterations: 0,
-        records: 0,
-        draws: 0,
-    };
-    stopped(x, none, no_state())
+    stopped(x, Progress::default(), CraftyState::default())
 }
 
 fn found_at(progress: Progress, found: Found) -> CraftyFound
     ensures { result ≡ found_at progress found }
 {
-    let state = state_numbers(found.state);
     CraftyFound {
         number: 0,
         iterations: progress.iterations,
@@ -68,19 +62,19 @@ fn found_at(progress: Progress, found: Found) -> CraftyFound
         draws: progress.draws,
         path: found.path,
         node: found.last,
-        state,
+        state: state_numbers(found.state),
     }
 }
 
-fn told(context: CraftContext, searched: Searched) -> CraftyFound
+fn told(
+    context: CraftContext,
+    searched: Result<(Progress, Found), (Refusal, Progress)>,
+) -> CraftyFound
     ensures { result ≡ told_of context searched }
 {
     match searched {
-        Searched::Found(progress, found) => found_at(progress, found),
-        Searched::Refused(x, progress) => {
-            let start = fresh(context);
-            stopped(x, progress, state_numbers(start))
-        }
+        Ok((progress, found)) => found_at(progress, found),
+        Err((x, progress)) => stopped(x, progress, state_numbers(fresh(context))),
     }
 }
 
@@ -94,8 +88,7 @@ fn found_in(
 ) -> CraftyFound
     ensures { FindsIn context options logs.now draws.now nodes.old out.old result nodes.new out.new }
 {
-    let searched = search(nodes, logs, draws, out, context, options);
-    told(context, searched)
+    told(context, search(nodes, logs, draws, out, context, options))
 }
 
 // In a context given by the numbers of its fields.
@@ -109,10 +102,9 @@ fn search_in(
 ) -> CraftyFound
     ensures { TellsSearched (listed numbers) options logs.now draws.now nodes.old out.old result nodes.new out.new }
 {
-    let read = context_line::from_fields(numbers);
-    match read {
-        Read::Context(context) => found_in(nodes, logs, draws, out, context, options),
-        Read::Refused(x) => outside(x),
+    match context_line::from_fields(numbers) {
+        Ok(context) => found_in(nodes, logs, draws, out, context, options),
+        Err(x) => outside(x),
     }
 }
 

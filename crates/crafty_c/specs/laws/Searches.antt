@@ -1,14 +1,12 @@
 -- The search's answer, told in numbers: what is so of the one is so of the other, that there is one, and by which numbers it refuses.
 -- Assumes nothing.
-use Rattle.std.specs.Prelude.{◌≡◌, refl, List, [], ◌∷◌, ◌⊎◌, ℕ, Float}
+use Rattle.std.specs.Prelude.{◌≡◌, refl, List, [], ◌∷◌, ◌⊎◌, ℕ, Float, Ok, Err}
 use Rattle.std.proofs.Common.{sym, ap, subst, ◌∙◌, inl, inr}
 use Rattle.refusal.specs.declared.Refusal.{Refusal}
 use Rattle.refusal.specs.declared.Refusal.TheVariants.{OutsideLimits}
 use Rattle.refusal.specs.declared.Report.{Report}
-use Rattle.refusal.specs.declared.Checked.{Checked}
-use Rattle.refusal.specs.declared.Checked.TheVariants.{Passed, Refused}
 use Rattle.refusal.specs.Report.{report_of}
-use Rattle.refusal.specs.Judge.{checks_of, Says}
+use Rattle.refusal.specs.Judge.{Checked, pass, checks_of, Says, answering}
 use Rattle.refusal.specs.Demands.{number_of, Among}
 use Rattle.refusal.specs.Limits.{FirstOutside}
 use Rattle.refusal.specs.laws.Judge.{judged_passed, judged_refused, checks, checks_on_by}
@@ -16,16 +14,12 @@ use Rattle.refusal.specs.laws.Demands.{number_among}
 use Rattle.refusal.specs.laws.Limits.{refused_outside}
 use Rattle.craft_context.specs.declared.context.CraftContext.{CraftContext}
 use Rattle.craft_context.specs.laws.Limits.{context_passes}
-use Rattle.context_line.specs.declared.fields.Read.TheVariants as R
 use Rattle.context_line.specs.Fields.{context_of, number_limits, number_tests}
-use Rattle.context_line.specs.Read.{read}
 use Rattle.context_line.specs.laws.Fields.{passed_taken}
 use Rattle.context_line.specs.laws.Read.{read_context, read_refused}
 use Rattle.tree.specs.declared.node.Node.{Node}
 use Rattle.search.specs.declared.options.SearchOptions.{SearchOptions}
-use Rattle.search.specs.declared.entry.Searched.{Searched}
-use Rattle.search.specs.declared.entry.Searched.TheVariants as S
-use Rattle.search.specs.Search.{asked_tests, searched_told, searched_of, records_of, room_of, Searches}
+use Rattle.search.specs.Search.{asked_tests, Searched, searched_told, searched_of, records_of, room_of, Searches}
 use Rattle.search.specs.Demands.{OneOutcomes, RefusesInPart, TellsFirstBesides}
 use Rattle.search.specs.laws.Demands.{search_refuses, inside_not_1}
 use Rattle.crafty_c.specs.declared.searches.CraftyFound.{CraftyFound}
@@ -34,8 +28,8 @@ use Rattle.crafty_c.specs.inner.Searches.{FindsIn}
 use Rattle.crafty_c.specs.laws.Answer.{report_in_lem}
 
 found_number : (c : CraftContext) (r : Searched) → found_told (told_of c r) ≡ searched_told r
-found_number c (S.Found progress found) = refl
-found_number c (S.Refused x progress) = report_in_lem x
+found_number c (Ok done) = refl
+found_number c (Err done) = report_in_lem done.0
 
 -- ---- the ways out, as the code takes them
 
@@ -45,7 +39,7 @@ pub finds_in : (c : CraftContext) (o : SearchOptions) (logs : List Float) (draws
 finds_in c o logs draws nodes out s e = record { same = e ∙ ap (told_of c) s.same; records = s.records; room = s.room }
 
 module _ (values : List ℕ) (o : SearchOptions) (logs : List Float) (draws : List ℕ) (nodes : List Node) (out : List ℕ) where
-  outside_told : {x : Refusal} → Refused x ≡ checks_of (number_tests values) → TellsSearched values o logs draws nodes out (outside_of x) nodes out
+  outside_told : {x : Refusal} → Err x ≡ checks_of (number_tests values) → TellsSearched values o logs draws nodes out (outside_of x) nodes out
   outside_told {x} e =
       let tests = number_tests values in
       record {
@@ -55,7 +49,7 @@ module _ (values : List ℕ) (o : SearchOptions) (logs : List Float) (draws : Li
         room = judged_refused (λ y. out) _ tests e;
       }
 
-  inside_told : Passed ≡ checks_of (number_tests values) → {t : CraftyFound} {after : List Node} {written : List ℕ}
+  inside_told : pass ≡ checks_of (number_tests values) → {t : CraftyFound} {after : List Node} {written : List ℕ}
       → FindsIn (context_of values) o logs draws nodes out t after written → TellsSearched values o logs draws nodes out t after written
   inside_told p s =
       let tests = number_tests values in
@@ -67,12 +61,12 @@ module _ (values : List ℕ) (o : SearchOptions) (logs : List Float) (draws : Li
       }
 
   -- no context is read
-  pub searched_outside : {x : Refusal} → Says read (number_tests values) (R.Context (context_of values)) (R.Refused x) → {t : CraftyFound} → t ≡ outside_of x
+  pub searched_outside : {x : Refusal} → Says answering (number_tests values) (Ok (context_of values)) (Err x) → {t : CraftyFound} → t ≡ outside_of x
       → TellsSearched values o logs draws nodes out t nodes out
   searched_outside s e = rw e (outside_told (read_refused s))
 
   -- one is read, and the search in it answers
-  pub searched_told_lem : {c : CraftContext} → Says read (number_tests values) (R.Context (context_of values)) (R.Context c)
+  pub searched_told_lem : {c : CraftContext} → Says answering (number_tests values) (Ok (context_of values)) (Ok c)
       → {t : CraftyFound} {after : List Node} {written : List ℕ} → FindsIn c o logs draws nodes out t after written
       → TellsSearched values o logs draws nodes out t after written
   searched_told_lem {c} s {t} {after} {written} h =
@@ -95,9 +89,9 @@ module _ {values : List ℕ} {o : SearchOptions} {logs : List Float} {draws : Li
       by : (k : Checked) → k ≡ checks_of (number_tests values)
           → Among (1 ∷ 21 ∷ 6 ∷ 19 ∷ 20 ∷ []) (found_told r).0
           × (((found_told r).0 ≡ 0 → ⊥) → written ≡ out)
-          × ((Passed ≡ checks_of (first_tests values o logs nodes) → ⊥) → after ≡ nodes)
+          × ((pass ≡ checks_of (first_tests values o logs nodes) → ⊥) → after ≡ nodes)
           × (Among (6 ∷ 19 ∷ 20 ∷ []) (found_told r).0 ⊎ (after ≡ nodes))
-      by (Refused x) e =
+      by (Err x) e =
           let told : found_told r ≡ report_of x = s.number ∙ sym (judged_refused report_of _ (number_tests values) e) in
           let first : Among (1 ∷ []) (number_of x) = number_among (checks (number_tests values) e) in
           let room : written ≡ out = s.room ∙ sym (judged_refused (λ y. out) _ (number_tests values) e) in
@@ -107,7 +101,7 @@ module _ {values : List ℕ} {o : SearchOptions} {logs : List Float} {draws : Li
           wide : {n : ℕ} → Among (1 ∷ []) n → Among (1 ∷ 21 ∷ 6 ∷ 19 ∷ 20 ∷ []) n
           wide (inl e) = inl e
           wide (inr e) = inr (inr (inr (inr (inr e))))
-      by Passed e =
+      by (Ok u) e =
           let told : found_told r ≡ searched_told (searched_of c o logs draws nodes out) = s.number ∙ sym (judged_passed report_of _ (number_tests values) e) in
           let room : written ≡ room_of c o logs draws nodes out = s.room ∙ sym (judged_passed (λ y. out) _ (number_tests values) e) in
           let records : after ≡ records_of c o logs draws nodes out = s.records ∙ sym (judged_passed (λ y. nodes) _ (number_tests values) e) in
@@ -136,14 +130,14 @@ outside_zero values o logs draws nodes out {r} s one = by (checks_of (number_tes
 
     by : (k : Checked) → k ≡ checks_of (number_tests values)
         → FirstOutside (number_limits values) r.value × (r ≡ outside_of (OutsideLimits r.value))
-    by (Refused x) e =
+    by (Err x) e =
         let o = refused_outside (number_limits values) e in
         let same : r ≡ outside_of (OutsideLimits o.place) =
         s.same ∙ sym (judged_refused outside_of _ (number_tests values) e) ∙ ap outside_of o.told
         in
         let place : o.place ≡ r.value = sym (ap (λ (found : CraftyFound). found.value) same) in
         (subst (FirstOutside (number_limits values)) place o.first, same ∙ ap (λ (p : ℕ). outside_of (OutsideLimits p)) place)
-    by Passed e =
+    by (Ok u) e =
         let told : found_told r ≡ searched_told (searched_of c o logs draws nodes out) = s.number ∙ sym (judged_passed report_of _ (number_tests values) e) in
         let inside = context_passes c (passed_taken values e).inside in
         let whole : Searches c o logs draws nodes out (searched_of c o logs draws nodes out) (records_of c o logs draws nodes out) (room_of c o logs draws nodes out) =

@@ -1,8 +1,7 @@
--- `crafty_c::texts::crafty_replay_text` meets its contract.
+-- `crafty_c::texts::crafty_replay_text` meets its contract: the entry's answer is told in numbers.
 -- Assumes nothing.
-use borrow.Author.Rules.{rules}
 use Rattle.crafty_c.specs.laws.Answer.{writes_told}
 use Rattle.crafty_c.proofs.texts.crafty_replay_text.Goals as goal
 
 pub returns : goal.returns
-returns c = rw c.wrote.ensures (writes_told c.replay_text.ensures)
+returns c = rw c.answer.ensures (writes_told c.replay_text.ensures)

@@ -1,8 +1,7 @@
--- `crafty_c::texts::crafty_write_list` meets its contract.
+-- `crafty_c::texts::crafty_write_list` meets its contract: the entry's answer is told in numbers.
 -- Assumes nothing.
-use borrow.Author.Rules.{rules}
 use Rattle.crafty_c.specs.laws.Answer.{writes_told}
 use Rattle.crafty_c.proofs.texts.crafty_write_list.Goals as goal
 
 pub returns : goal.returns
-returns c = rw c.wrote.ensures (writes_told c.write_list.ensures)
+returns c = rw c.answer.ensures (writes_told c.write_list.ensures)
