@@ -46,6 +46,7 @@ fn check_first(
     refusal::check_room(records, 1)
 }
 
+#[tactic(auto, unfolding(simulator::specs::Replay::stop_by, simulator::specs::Replay::replay_from, simulator::specs::Replay::replay_by))]
 // Record 0 has the plain moves of the start: those of a replay of no action, which leaves the single test to the loop of replay alone.
 fn root_of(context: CraftContext) -> Node
     requires { ContextIn context }

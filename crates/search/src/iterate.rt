@@ -18,7 +18,8 @@ pub struct Turned {
     pub at: usize,
 }
 
-// One that is refused leaves the records and the index as they were. Else the path is stored, and the score propagated from its end.
+// One that is refused leaves the records and the index as they were. Else the path is stored, and the score propagated from its end. What is lent and
+// asked goes in part to each step, so a struct of it would be taken apart here.
 pub fn iterate(
     nodes: &mut [Node],
     links: &mut [u32],

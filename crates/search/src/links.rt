@@ -1,5 +1,5 @@
 // The index by which children are found: two numbers to each of the first records, its last child among them and the child of its parent before it; 0 for
-// none. Children past it are searched for.
+// none, since optional numbers would take twice the fixed room. Children past it are searched for.
 ghost use Rattle.std.specs.Prelude.{◌≡◌, ◌*◌, ◌<◌, length};
 ghost use Rattle.search.specs.inner.Links.{linked, older_at, last_link, top_of, link_of};
 

@@ -102,6 +102,7 @@ fn next_child(
 }
 
 // The state after a legal action.
+#[tactic(auto, using(action::specs::laws::Bounds::rows_bounded))]
 pub fn stepped(context: CraftContext, state: CraftState, n: u8) -> CraftState
     requires { Playable context state n (attributes_of n) }
     ensures { result ≡ execute_of context state n }

@@ -19,12 +19,14 @@ fn without(n: Node, action: u8) -> Node
     requires { SetIn n.unused × (action < actions) }
     ensures { result ≡ drawn_from n action }
 {
-    let mut m = n;
-    m.unused = bits::remove(n.unused, action);
-    m
+    Node {
+        unused: bits::remove(n.unused, action),
+        ..n
+    }
 }
 
 // The member that the draw at a place names.
+#[tactic(auto, using(action_set::specs::laws::Nth::nth_named))]
 fn sampled(draws: &[u8], at: usize, unused: u32) -> u8
     requires { (at < length draws.now) × SetIn unused × (slice_index draws.now at < size_of unused) }
     ensures { (result ≡ nth_of unused (slice_index draws.now at)) × (result < actions) }

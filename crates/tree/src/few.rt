@@ -64,6 +64,7 @@ fn way_len(best: &[u32]) -> usize
 {
     let mut len = 0;
     let mut k = best[0] as usize;
+    // The steps are the table's own, so no range goes over them.
     while k != 0 {
         len += 1;
         k = best[k] as usize;

@@ -20,6 +20,7 @@ pub fn plant(nodes: &mut [Node], unused: u32) -> Result<usize, Refusal>
     Ok(NEW_COUNT)
 }
 
+#[tactic(auto, using(crate::specs::laws::Tree::checked_tree), unfolding(refusal::specs::Judge::judged))]
 // The new record's number and the new count. Its parent's unused moves stay as they are.
 pub fn insert(
     nodes: &mut [Node],
@@ -39,6 +40,7 @@ pub fn insert(
     Ok((count, next))
 }
 
+#[tactic(auto, using(crate::specs::laws::Tree::checked_tree, crate::specs::laws::Tree::checked_node), unfolding(refusal::specs::Judge::judged))]
 pub fn record_at(nodes: &[Node], count: usize, k: usize) -> Result<Node, Refusal>
     ensures { Looks nodes.now count k result }
 {

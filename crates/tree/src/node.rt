@@ -33,6 +33,7 @@ impl Node {
     pub const SCORE_MOST: f32 = 1.0;
 
     // A record that was never visited.
+    #[tactic(auto, using(crate::specs::laws::Float::zero_bits))]
     pub fn new(parent: usize, action: u8, unused: u32) -> Node
         ensures { result ≡ node_of parent action unused }
     {
@@ -55,6 +56,7 @@ impl Node {
 }
 
 // Refusal 10: a NaN fails both comparisons.
+#[tactic(auto, using(laws::specs::laws::Floats::one_bits, crate::specs::laws::Float::minus_one_bits))]
 pub fn check_score(score: f32) -> Result<(), Refusal>
     ensures { result ≡ checked_of (score_test score) }
 {
@@ -65,13 +67,14 @@ pub fn check_score(score: f32) -> Result<(), Refusal>
 }
 
 // Whether the record takes no visit more.
+#[tactic(auto, using(crate::specs::laws::Float::most_bits))]
 pub fn is_full(n: Node) -> bool
     ensures { result ≡ is_full n }
 {
     n.visits >= Node::VISITS_MOST
 }
 
-// The maximum stays where the score is equal to it, so +0 stays when -0 comes.
+// The maximum stays where the score is equal to it, so +0 stays when -0 comes: f32::max may answer either.
 fn greater(maximum: f32, score: f32) -> f32
     ensures { result ≡ greater_of maximum score }
 {
@@ -82,12 +85,14 @@ fn greater(maximum: f32, score: f32) -> f32
 }
 
 // The record after one more visit, with this score.
+#[tactic(auto, using(laws::specs::laws::Floats::one_bits), unfolding(crate::specs::Node::touched_of))]
 pub fn touched(n: Node, score: f32) -> Node
     ensures { result ≡ touched_of n score }
 {
-    let mut m = n;
-    m.visits = n.visits + 1.0;
-    m.score_sum = n.score_sum + score;
-    m.max_score = greater(n.max_score, score);
-    m
+    Node {
+        visits: n.visits + 1.0,
+        score_sum: n.score_sum + score,
+        max_score: greater(n.max_score, score),
+        ..n
+    }
 }

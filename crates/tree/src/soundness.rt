@@ -56,6 +56,7 @@ fn is_set(unused: u32) -> bool
 }
 
 // Record k of a tree: a NaN fails every comparison.
+#[tactic(auto, unfolding(crate::specs::Sound::sound_at))]
 pub fn is_sound_at(k: usize, n: Node) -> bool
     ensures { result ≡ sound_at k n }
 {

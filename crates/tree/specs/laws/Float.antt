@@ -5,7 +5,7 @@ use Rattle.std.proofs.Common.{sym, ap, ◌∙◌, subst, zero-le, le_trans, le_o
 use Rattle.std.proofs.Math.Nat.{eq_of_mul-eq-mul_right, sub-zero}
 use Rattle.std.proofs.Math.Dec.{eqb_refl}
 use Rattle.std.specs.Float.{nan, inf, fin, binary32}
-use Rattle.std.specs.Float.Ieee.{up, down, round, sum, add, neg, lt, eq, le, of_int, to_unsigned, to_bits, top, fits, is_nan}
+use Rattle.std.specs.Float.Ieee.{up, down, round, sum, add, neg, lt, eq, le, of_bits, of_int, to_unsigned, to_bits, top, fits, is_nan}
 use Rattle.std.specs.Float.Ieee.Bits.{to_bits-lt}
 use Rattle.std.specs.Float.Ieee.Digits.{Equals}
 use Rattle.std.specs.Float.Ieee.Exact.{HasValue}
@@ -16,7 +16,7 @@ use Rattle.laws.specs.laws.Order.{signed_le, le_signed}
 use Rattle.laws.specs.laws.Small.{Small, or_le}
 use Rattle.tree.specs.Node.{plus_zero, visits_most, count_most}
 use Rattle.tree.specs.Sound.{within, minus}
-use Rattle.laws.specs.Floats.{float, one}
+use Rattle.laws.specs.Floats.{float, one, minus_one}
 
 -- ---- comparisons of magnitudes, as `le` computes them
 
@@ -198,3 +198,17 @@ bits_sign (fin true m e) f h = le-ltb (to_bits binary32 (fin true m e)) 0x8000_0
 bits_sign (fin false m e) f h =
     let bound : to_bits binary32 (fin true m e) < 2 * top binary32 = to_bits-lt binary32 (fin true m e) (fits_either m e f) in
     lt-ltb (to_bits binary32 (fin false m e)) 0x8000_0000 (omega arith)
+
+-- ---- the bits by which the code writes these numbers
+
+pub zero_bits : of_bits binary32 0 ≡ plus_zero
+unfolding of_bits of_int
+zero_bits = refl
+
+pub most_bits : of_bits binary32 0x4b80_0000 ≡ visits_most
+unfolding of_bits of_int
+most_bits = refl
+
+pub minus_one_bits : of_bits binary32 0xbf80_0000 ≡ minus_one
+unfolding of_bits of_int
+minus_one_bits = refl

@@ -1,9 +1,0 @@
--- `tree::node::Node::new` meets its contract.
--- Assumes nothing.
-use Rattle.std.proofs.Common.{refl}
-use lib.Ieee.{of_int, of_bits}
-use Rattle.tree.proofs.node.Node.new.Goals as goal
-
-pub returns : goal.returns
-unfolding of_int of_bits
-returns c = refl
