@@ -15,7 +15,7 @@ pub fn check_action(n: u8) -> Result<(), Refusal>
     Err(Refusal::UnknownAction(0))
 }
 
-// The whole list, and the first place where it fails.
+// The whole list, and the first place where it fails. A list that passes stays the caller's bytes, and who goes over it asks `known_front` of it.
 pub fn check_list(list: &[u8]) -> Result<(), Refusal>
     ensures { result ≡ checked_of (list_test list.now) }
 {

@@ -20,7 +20,7 @@ pub use texts::{TEXT_MOST, Text, put_text};
 pub use waits::wait;
 pub use wear::calc_durability_cost;
 
-// The actions by name: the numbers of the table.
+// The actions by name: the numbers of the table. An action is its number, and no enum: entries take any number, a list is lent bytes, a set counts by it.
 pub const BASIC_SYNTHESIS: u8 = 0;
 
 pub const BASIC_TOUCH: u8 = 1;

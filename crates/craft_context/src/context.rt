@@ -9,6 +9,7 @@ use super::place;
 use action_set::ActionSet;
 use refusal::Refusal;
 
+// Entries take any; inside, `ContextIn` is asked where a context is handed on by its fields, and `craft_state::Craft` holds it beside a state.
 #[derive(Clone, Copy, Debug, PartialEq, Eq)]
 pub struct CraftContext {
     pub player_job_level: u32,

@@ -1,4 +1,5 @@
-// The append, of bytes and of one byte.
+// The append, of bytes and of one byte. A writer is lent a room and a place in it, and answers the place after: a struct that held the room would ask each
+// writer for one clause more, that it still is the caller's, and there is no heap that it could own.
 ghost use Rattle.std.specs.Prelude.{[], ◌∷◌, ◌+◌, ◌≤◌, ◌<◌, length};
 ghost use Rattle.text.specs.Over.{Put};
 
