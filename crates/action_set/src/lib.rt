@@ -7,6 +7,7 @@ ghost use Rattle.refusal.specs.Judge.{checks_of};
 ghost use Rattle.action_set.specs.Sets.{member_tests};
 ghost use Rattle.action_set.specs.Entries.{empty_set, ChecksSet, FromBits, FromList, Contains, Added, Removed, Len, IsEmpty, HighestIs, Members};
 
+use bits::Bits;
 use refusal::Refusal;
 
 pub mod bits;
@@ -54,7 +55,7 @@ impl ActionSet {
         ensures { FromList list.now result }
     {
         action::check_list(list)?;
-        Ok(ActionSet(bits::of_list(list)))
+        Ok(ActionSet(bits::of_list(list).bits))
     }
 
     pub fn contains(self, n: u8) -> Result<bool, Refusal>
@@ -68,28 +69,28 @@ impl ActionSet {
         ensures { Added self.0 n result }
     {
         check_member(self, n)?;
-        Ok(ActionSet(bits::add(self.0, n)))
+        Ok(ActionSet(Bits { bits: self.0 }.add(n).bits))
     }
 
     pub fn unset(self, n: u8) -> Result<ActionSet, Refusal>
         ensures { Removed self.0 n result }
     {
         check_member(self, n)?;
-        Ok(ActionSet(bits::remove(self.0, n)))
+        Ok(ActionSet(Bits { bits: self.0 }.remove(n).bits))
     }
 
     pub fn len(self) -> Result<u32, Refusal>
         ensures { Len self.0 result }
     {
         self.check()?;
-        Ok(bits::size(self.0))
+        Ok(Bits { bits: self.0 }.size())
     }
 
     pub fn is_empty(self) -> Result<bool, Refusal>
         ensures { IsEmpty self.0 result }
     {
         self.check()?;
-        Ok(bits::size(self.0) == 0)
+        Ok(Bits { bits: self.0 }.size() == 0)
     }
 
     // None of the empty set.
@@ -100,7 +101,7 @@ impl ActionSet {
         if self.0 == 0 {
             return Ok(None);
         }
-        Ok(Some(bits::top(self.0)))
+        Ok(Some(Bits { bits: self.0 }.top()))
     }
 
     // In rising order. Returns how many.
@@ -108,7 +109,7 @@ impl ActionSet {
         ensures { Members self.0 out.old result out.new }
     {
         self.check()?;
-        refusal::check_room(out.len(), bits::size(self.0) as usize)?;
+        refusal::check_room(out.len(), Bits { bits: self.0 }.size() as usize)?;
         Ok(bits::put_members(self.0, out))
     }
 }

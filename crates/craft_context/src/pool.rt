@@ -4,7 +4,8 @@ ghost use Rattle.action.specs.Price.{affordable};
 ghost use Rattle.craft_context.specs.Pool.{ahead, able, twin_of, in_pool, pool_of};
 
 use super::sheet::{Player, Recipe};
-use action_set::{ActionSet, bits};
+use action_set::ActionSet;
+use action_set::bits::Bits;
 
 // Every action.
 const ALL: u32 = ActionSet::LIMIT - 1;
@@ -57,5 +58,6 @@ fn is_in_pool(player: Player, recipe: Recipe, n: u8) -> bool
 pub fn determine_action_pool(player: Player, recipe: Recipe) -> u32
     ensures { result ≡ pool_of player recipe }
 {
-    bits::keep(ALL, |n| is_in_pool(player, recipe, n))
+    let all = Bits { bits: ALL };
+    all.keep(|n| is_in_pool(player, recipe, n)).bits
 }

@@ -2,14 +2,14 @@
 ghost use Rattle.std.specs.Prelude.{◌≡◌, ◌<◌};
 ghost use Rattle.action.specs.Bounds.{RowBounds};
 ghost use Rattle.action.specs.Known.{actions};
-ghost use Rattle.action_set.specs.Sets.{SetIn, keep_of};
+ghost use Rattle.action_set.specs.Sets.{keep_of};
 ghost use Rattle.moves.specs.Moves.{ended, allows_of, moves_of};
 ghost use Rattle.moves.specs.inner.Legal.{passed_of, legal_of};
 
 use super::candidate::{allowed, allows};
 use super::mode::Mode;
 use action::Attributes;
-use action_set::bits;
+use action_set::bits::{self, Bits};
 use craft_context::CraftContext;
 use craft_state::{Craft, CraftState};
 
@@ -23,11 +23,10 @@ pub fn has_ended(context: CraftContext, state: CraftState) -> bool
 }
 
 // The walk over a set: each member is tested, and dropped if it fails.
-fn keep_allowed(craft: Craft, mode: Mode, set: u32) -> u32
-    requires { SetIn set }
-    ensures { (result ≡ keep_of (allows_of craft.context craft.state mode) set) × SetIn result }
+fn keep_allowed(craft: Craft, mode: Mode, set: Bits) -> Bits
+    ensures { result.bits ≡ keep_of (allows_of craft.context craft.state mode) set.bits }
 {
-    bits::keep(set, |n| allows(craft, mode, n))
+    set.keep(|n| allows(craft, mode, n))
 }
 
 // One candidate of a state that has not ended, by its row: the pool has it, and it passes the test.
@@ -48,11 +47,14 @@ pub fn is_legal(craft: Craft, mode: Mode, n: u8, row: Attributes) -> bool
 
 // The walk over the pool.
 #[tactic(auto, unfolding(crate::specs::Moves::moves_by))]
-pub fn legal_moves(craft: Craft, mode: Mode) -> u32
-    ensures { (result ≡ moves_of craft.context craft.state mode) × SetIn result }
+pub fn legal_moves(craft: Craft, mode: Mode) -> Bits
+    ensures { result.bits ≡ moves_of craft.context craft.state mode }
 {
     if has_ended(craft.context, craft.state) {
-        return 0;
+        return Bits { bits: 0 };
     }
-    keep_allowed(craft, mode, craft.context.action_pool.0)
+    let pool = Bits {
+        bits: craft.context.action_pool.0,
+    };
+    keep_allowed(craft, mode, pool)
 }

@@ -3,7 +3,7 @@ ghost use Rattle.std.specs.Prelude.{◌≡◌, ◌<◌};
 ghost use Rattle.laws.specs.Bits.{has};
 ghost use Rattle.action.specs.Known.{actions};
 ghost use Rattle.action.specs.Table.{attributes_of};
-ghost use Rattle.action_set.specs.Sets.{SetIn, keep_of};
+ghost use Rattle.action_set.specs.Sets.{keep_of};
 ghost use Rattle.craft_state.specs.Inside.{DurabilityIn};
 ghost use Rattle.moves.specs.Rules.{withstands, own_rule, strict_rule};
 ghost use Rattle.moves.specs.inner.Sets.{unless_of, kind_rule};
@@ -13,6 +13,7 @@ use super::own::{
     is_unused, no_waste_not, on_observe,
 };
 use action_set::ActionSet;
+use action_set::bits::Bits;
 use craft_context::CraftContext;
 use craft_state::{Buffs, CraftState};
 
@@ -84,22 +85,24 @@ const ONLY_GREAT_STRIDES: u32 = 1 << action::GREAT_STRIDES;
 
 // What a rule over some actions leaves of a set: all where it holds, else the others.
 #[tactic(auto, using(crate::specs::laws::Leaves::unless_held, crate::specs::laws::Leaves::unless_broken))]
-pub fn unless(set: u32, over: u32, holds: bool) -> u32
-    requires { SetIn set }
-    ensures { (result ≡ unless_of set over holds) × SetIn result }
+pub fn unless(set: Bits, over: u32, holds: bool) -> Bits
+    ensures { result.bits ≡ unless_of set.bits over holds }
 {
     if holds {
         return set;
     }
-    set - (set & over)
+    Bits {
+        bits: set.bits - (set.bits & over),
+    }
 }
 
 // What a set shares with another.
-pub fn within(set: u32, other: u32) -> u32
-    requires { SetIn set }
-    ensures { (result ≡ keep_of (has other) set) × SetIn result }
+pub fn within(set: Bits, other: u32) -> Bits
+    ensures { result.bits ≡ keep_of (has other) set.bits }
 {
-    set & other
+    Bits {
+        bits: set.bits & other,
+    }
 }
 
 // Durability is enough for the cost of an action.
@@ -112,9 +115,8 @@ fn is_withstood(state: CraftState, n: u8) -> bool
 }
 
 // The arms of `own_rule`, a line to each; the two Groundworks have a row each, and so a line each.
-pub fn own_moves(context: CraftContext, state: CraftState, set: u32) -> u32
-    requires { SetIn set }
-    ensures { (result ≡ keep_of (λ n. own_rule context state n (attributes_of n)) set) × SetIn result }
+pub fn own_moves(context: CraftContext, state: CraftState, set: Bits) -> Bits
+    ensures { result.bits ≡ keep_of (λ n. own_rule context state n (attributes_of n)) set.bits }
 {
     let combo = state.previous_combo_action;
     let perfection = state.trained_perfection_active;
@@ -138,9 +140,9 @@ pub fn own_moves(context: CraftContext, state: CraftState, set: u32) -> u32
 }
 
 // The arms of `strict_rule`, a line to each.
-pub fn strict_moves(context: CraftContext, state: CraftState, set: u32) -> u32
-    requires { DurabilityIn state.durability context.durability_max × SetIn set }
-    ensures { (result ≡ keep_of (strict_rule context state) set) × SetIn result }
+pub fn strict_moves(context: CraftContext, state: CraftState, set: Bits) -> Bits
+    requires { DurabilityIn state.durability context.durability_max }
+    ensures { result.bits ≡ keep_of (strict_rule context state) set.bits }
 {
     let off = context.durability_max - state.durability;
     let worn = off > IMMACULATE_MEND_ABOVE;
@@ -159,9 +161,8 @@ pub fn strict_moves(context: CraftContext, state: CraftState, set: u32) -> u32
 }
 
 // `is_outside_memory`, `is_outside_veneration` and `may_follow`, a line to each.
-pub fn kind_moves(context: CraftContext, state: CraftState, set: u32) -> u32
-    requires { SetIn set }
-    ensures { (result ≡ keep_of (λ n. kind_rule context state n (attributes_of n)) set) × SetIn result }
+pub fn kind_moves(context: CraftContext, state: CraftState, set: Bits) -> Bits
+    ensures { result.bits ≡ keep_of (λ n. kind_rule context state n (attributes_of n)) set.bits }
 {
     let combo = state.previous_combo_action;
     let memory = (context.recipe_job_level == context.player_job_level)

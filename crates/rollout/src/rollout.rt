@@ -5,6 +5,7 @@ ghost use Rattle.rollout.specs.inner.Movable.{Movable};
 ghost use Rattle.rollout.specs.inner.Ends.{EndsWithin};
 
 use super::draws::draw;
+use action_set::bits::Bits;
 use craft_context::CraftContext;
 use craft_state::{Craft, CraftState};
 use moves::Mode;
@@ -16,22 +17,22 @@ use score::CraftResult;
 pub fn roll_out(
     context: CraftContext,
     start: CraftState,
-    start_moves: u32,
+    start_moves: Bits,
     draws: &[u8],
     first: usize,
 ) -> Result<(CraftResult, usize), Refusal>
-    requires { Movable context start start_moves × (first ≤ length draws.now) }
-    ensures { (result ≡ rolled_from context start start_moves first (drop first draws.now)) × EndsWithin (length draws.now) result }
+    requires { Movable context start start_moves.bits × (first ≤ length draws.now) }
+    ensures { (result ≡ rolled_from context start start_moves.bits first (drop first draws.now)) × EndsWithin (length draws.now) result }
 {
     let mut state = start;
     let mut moves = start_moves;
     let mut at = first;
     // No `for` over the draws: it ends where no move is left, and after the last draw that is still to be asked.
-    while moves != 0 {
+    while moves.bits != 0 {
         let n = draw(moves, draws, at)?;
         state = step::execute(context, state, n, action::attributes_of(n));
         moves = moves::moves_at_once(Craft { context, state }, Mode::STRICT);
         at += 1;
     }
-    Ok((score::judge(Craft { context, state }, moves), at))
+    Ok((score::judge(Craft { context, state }, moves.bits), at))
 }

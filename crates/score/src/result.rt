@@ -44,5 +44,5 @@ pub fn judge(craft: Craft, moves: u32) -> CraftResult
 pub fn check_result(craft: Craft, mode: Mode) -> CraftResult
     ensures { (result ≡ result_of craft.context craft.state mode) × ScoreIsNumber result }
 {
-    judge(craft, moves::legal_moves(craft, mode))
+    judge(craft, moves::legal_moves(craft, mode).bits)
 }

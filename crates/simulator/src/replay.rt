@@ -74,8 +74,8 @@ pub fn execute_actions(context: CraftContext, mode: Mode, list: &[u8]) -> Replay
     let moves = moves::moves_at_once(Craft { context, state }, mode);
     Replay {
         state,
-        moves: ActionSet(moves),
-        result: settled(result, moves),
+        moves: ActionSet(moves.bits),
+        result: settled(result, moves.bits),
         executed: i,
     }
 }

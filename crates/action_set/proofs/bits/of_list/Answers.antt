@@ -8,15 +8,20 @@ use Rattle.action.specs.laws.Known.{known_each}
 use Rattle.action_set.specs.laws.Sets.{joined, joined_start, joined_turn, joined_end}
 use Rattle.action_set.proofs.bits.of_list.Goals as goal
 
+pub invariant_of-s : goal.invariant_of-s
+invariant_of-s c = record { inside = c.loop-n.invariant.1 }
+
+pub invariant_of-s-2 : goal.invariant_of-s-2
+invariant_of-s-2 c = record { inside = c.loop-n.invariant.1 }
+
 pub loop-n-init : goal.loop-n-init
 loop-n-init c = (joined_start _, pow_pos actions)
 
 pub add-s-requires : goal.add-s-requires
-add-s-requires c = (c.loop-n.invariant.1, known_each _ c.requires _ c.loop-n-test.true)
+add-s-requires c = known_each _ c.requires _ c.loop-n-test.true
 
 pub loop-n-preserved : goal.loop-n-preserved
-loop-n-preserved c =
-    (joined_turn _ _ _ c.loop-n-test.true c.add-s.ensures.0 ∙ c.loop-n.invariant.0, c.add-s.ensures.1)
+loop-n-preserved c = (joined_turn _ _ _ c.loop-n-test.true c.add-s.ensures ∙ c.loop-n.invariant.0, c.add-s.result.inside)
 
 pub returns : goal.returns
 returns c =

@@ -8,4 +8,4 @@ use Rattle.action_set.specs.laws.Sets.{joined}
 use Rattle.action_set.proofs.bits.of_list.Given as goal
 
 abbrev pub invariant-loop-n : goal.invariant-loop-n
-invariant-loop-n l = (joined l.s (drop l.n-index l.list) ≡ set_of (elem l.list)) × SetIn l.s
+invariant-loop-n l = (joined l.s.0 (drop l.n-index l.list) ≡ set_of (elem l.list)) × SetIn l.s.0

@@ -6,4 +6,4 @@ use Rattle.craft_context.specs.Pool.{in_pool}
 use Rattle.craft_context.proofs.pool.determine_action_pool.Goals as goal
 
 pub returns : goal.returns
-returns c = c.keep.ensures.kept (in_pool c.args.player c.args.recipe) (λ n b h k. search rules) ∙ keep_all _
+returns c = c.keep.ensures (in_pool c.args.player c.args.recipe) (λ n b h k. search rules) ∙ keep_all _

@@ -8,8 +8,6 @@ use Rattle.moves.proofs.amounts.progress_moves.Goals as goal
 
 pub returns : goal.returns
 unfolding collect action_of
-returns c = (
-  simp (c.unless.ensures.0, c.unless-work.ensures.0, c.unless-set.ensures.0, c.requires.1)
-      (progress_leaves c.args.context c.args.state attributes_of rows_bounded c.args.set),
-  c.unless.ensures.1,
-)
+returns c =
+    simp (c.unless.ensures, c.unless-work.ensures, c.unless-set.ensures, c.requires)
+    (progress_leaves c.args.context c.args.state attributes_of rows_bounded c.args.set.bits)

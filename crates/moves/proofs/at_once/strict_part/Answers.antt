@@ -11,19 +11,16 @@ pub returns-then-is_eye_alone : goal.returns-then-is_eye_alone
 unfolding collect
 returns-then-is_eye_alone c =
     let eye = sym c.is_eye_alone.ensures ∙ c.if-is_eye_alone.true in
-    (c.within.ensures.0 ∙ eye_leaves c.args.craft.context c.args.craft.state eye attributes_of c.args.set, c.within.ensures.1)
+    c.within.ensures ∙ eye_leaves c.args.craft.context c.args.craft.state eye attributes_of c.args.set.bits
 
 -- those that finish
 pub progress_moves-requires : goal.progress_moves-requires
 unfolding collect action_of
-progress_moves-requires c =
-    (c.kind_moves-kind.ensures.1, simp (c.keep_finishing-finish.ensures.0, c.within-2.ensures.0))
+progress_moves-requires c = simp (c.keep_finishing-finish.ensures, c.within-2.ensures)
 
 -- the rules one after the other
 pub returns : goal.returns
 returns c =
-    let eye = sym c.is_eye_alone.ensures ∙ c.if-is_eye_alone.false in (
-      simp (c.progress_moves.ensures.0, c.kind_moves-kind.ensures.0, c.strict_moves-strict.ensures.0)
-          (beyond_leaves c.args.craft.context c.args.craft.state eye attributes_of c.args.set),
-      c.progress_moves.ensures.1,
-    )
+    let eye = sym c.is_eye_alone.ensures ∙ c.if-is_eye_alone.false in
+    simp (c.progress_moves.ensures, c.kind_moves-kind.ensures, c.strict_moves-strict.ensures)
+    (beyond_leaves c.args.craft.context c.args.craft.state eye attributes_of c.args.set.bits)

@@ -11,7 +11,7 @@ use Rattle.moves.proofs.sets.kind_moves.Goals as goal
 pub returns : goal.returns
 unfolding collect action_of
 returns c =
-    let left : c.unless.result ≡ leaves (kind_rules c.args.context c.args.state) c.args.set =
-    simp (c.unless.ensures.0, c.unless-set-2.ensures.0, c.unless-set.ensures.0, c.on_observe.ensures)
+    let left : c.unless.result.bits ≡ leaves (kind_rules c.args.context c.args.state) c.args.set.bits =
+    simp (c.unless.ensures, c.unless-set-2.ensures, c.unless-set.ensures, c.on_observe.ensures)
     in
-    (left ∙ kind_leaves c.args.context c.args.state attributes_of rows_bounded c.args.set c.requires, c.unless.ensures.1)
+    left ∙ kind_leaves c.args.context c.args.state attributes_of rows_bounded c.args.set.bits c.args.set.inside

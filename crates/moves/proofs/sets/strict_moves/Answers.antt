@@ -15,23 +15,23 @@ use Rattle.moves.proofs.sets.strict_moves.Goals as goal
 pub returns : goal.returns
 unfolding collect
 returns c =
-    let e = durability_read c.requires.0 in
+    let e = durability_read c.requires in
     let fits : SFits w8 (c.args.context.durability_max -ℤ c.args.state.durability) = search rules in
-    let left : c.unless.result ≡ leaves (strict_rules c.args.context c.args.state) c.args.set =
+    let left : c.unless.result.bits ≡ leaves (strict_rules c.args.context c.args.state) c.args.set.bits =
     simp (
-      c.unless.ensures.0,
-      c.unless-set-8.ensures.0,
-      c.unless-set-7.ensures.0,
-      c.unless-set-6.ensures.0,
-      c.unless-set-5.ensures.0,
-      c.unless-set-4.ensures.0,
-      c.unless-set-3.ensures.0,
-      c.unless-set-2.ensures.0,
-      c.unless-set.ensures.0,
+      c.unless.ensures,
+      c.unless-set-8.ensures,
+      c.unless-set-7.ensures,
+      c.unless-set-6.ensures,
+      c.unless-set-5.ensures,
+      c.unless-set-4.ensures,
+      c.unless-set-3.ensures,
+      c.unless-set-2.ensures,
+      c.unless-set.ensures,
       c.no_waste_not.ensures,
       e.0,
       e.1,
       to_z-of_z w8 _ fits,
     )
     in
-    (left ∙ strict_leaves c.args.context c.args.state c.args.set c.requires.1, c.unless.ensures.1)
+    left ∙ strict_leaves c.args.context c.args.state c.args.set.bits c.args.set.inside

@@ -113,4 +113,4 @@ turns-preserved c =
     )
 
 pub returns : goal.returns
-returns c = (simp (c.settled.ensures.0, c.moves_at_once-moves.ensures.0) (sym (stops (goal.at.returns c).Joined-has_ended).0), c.settled.ensures.1)
+returns c = (simp (c.settled.ensures.0, c.moves_at_once-moves.ensures) (sym (stops (goal.at.returns c).Joined-has_ended).0), c.settled.ensures.1)

@@ -1,9 +1,9 @@
--- `action_set::bits::keep` meets its contract: the walk's laws, at each rule that the test's answers follow. The measure is what remains.
+-- `Bits::keep` meets its contract: the walk's laws, at each rule that the test's answers follow. The measure is what remains.
 -- Assumes nothing.
 use Rattle.std.proofs.Common.{sym, ◌∙◌, arith}
 use Rattle.laws.specs.laws.Bits.{has_low}
 use Rattle.laws.specs.laws.Walk.{done, stays, goes}
-use Rattle.action_set.proofs.bits.keep.Goals as goal
+use Rattle.action_set.proofs.bits.Bits.keep.Goals as goal
 
 pub overflow_sub-remaining : goal.overflow_sub-remaining
 overflow_sub-remaining g c = omega (arith, has_low _ _ c.next-n.ensures.is)
@@ -19,7 +19,7 @@ loop-remaining-preserved-then-not-test g c =
       part = omega arith;
       less = omega arith;
       walk = λ p follows.
-          goes (l.walk p follows) c.requires.set c.next-n.ensures c.bit-b.ensures
+          goes (l.walk p follows) c.args.self.inside c.next-n.ensures c.bit-b.ensures
           (sym (follows _ _ c.next-n.ensures.known c.test.ensures) ∙ c.if-not-test.true);
     }
 
@@ -31,9 +31,9 @@ loop-remaining-preserved g c =
       part = omega arith;
       less = omega arith;
       walk = λ p follows.
-          stays (l.walk p follows) c.requires.set c.next-n.ensures c.bit-b.ensures
+          stays (l.walk p follows) c.args.self.inside c.next-n.ensures c.bit-b.ensures
           (sym (follows _ _ c.next-n.ensures.known c.test.ensures) ∙ c.if-not-test.false);
     }
 
-pub returns-clause-kept : goal.returns-clause-kept
-returns-clause-kept g c = λ p follows. done (c.loop-remaining.invariant.walk p follows) c.loop-remaining-test.false
+pub returns : goal.returns
+returns g c = λ p follows. done (c.loop-remaining.invariant.walk p follows) c.loop-remaining-test.false

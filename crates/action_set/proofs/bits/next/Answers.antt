@@ -1,9 +1,0 @@
--- `action_set::bits::next` meets its contract: the count of trailing zeros is the place of a member.
--- Assumes nothing.
-use native.Mathlib.Omega.{arith}
-use Rattle.laws.specs.laws.Bits.{trailing_member}
-use Rattle.action.specs.Known.{actions}
-use Rattle.action_set.proofs.bits.next.Goals as goal
-
-pub returns : goal.returns
-returns c = trailing_member actions 32 _ (omega arith) c.requires.0 c.requires.1

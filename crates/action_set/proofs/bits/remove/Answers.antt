@@ -1,8 +1,0 @@
--- `action_set::bits::remove` meets its contract.
--- Assumes nothing.
-use Rattle.laws.specs.laws.Bits.{less_bit}
-use Rattle.action.specs.Known.{actions}
-use Rattle.action_set.proofs.bits.remove.Goals as goal
-
-pub returns : goal.returns
-returns c = rw c.bit.ensures (less_bit actions _ _ c.requires.0 c.requires.1)

@@ -1,8 +1,0 @@
--- `action_set::bits::size` meets its contract.
--- Assumes nothing.
-use Rattle.laws.specs.laws.Bits.{size_ones}
-use Rattle.action.specs.Known.{actions}
-use Rattle.action_set.proofs.bits.size.Goals as goal
-
-pub returns : goal.returns
-returns c = size_ones actions _ c.requires
