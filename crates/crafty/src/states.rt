@@ -14,7 +14,7 @@ pub fn moves(context: CraftContext, state: CraftState, mode: Mode) -> Result<Act
 {
     state.check(context)?;
     let craft = Craft { context, state };
-    Ok(ActionSet(moves::legal_moves(craft, mode)))
+    Ok(ActionSet(moves::legal_moves(craft, mode).bits))
 }
 
 // One action, if it is among the state's moves in the mode.

@@ -7,6 +7,7 @@ use super::options::SearchOptions;
 use super::plan::planned;
 use super::select::select;
 use super::store::store_path;
+use action_set::bits::Bits;
 use craft_context::CraftContext;
 use refusal::Refusal;
 use tree::{Node, node_at, touch_path};
@@ -35,13 +36,14 @@ pub fn iterate(
 {
     let chosen = select(nodes, links, logs, context, options, count);
     let n = node_at(nodes, chosen.at);
+    let unused = Bits { bits: n.unused };
     let root = node_at(nodes, 0);
     let plan = planned(
         draws,
         context,
         options.score_storage_threshold,
         chosen.state,
-        n.unused,
+        unused,
         root.max_score,
         count,
         nodes.len(),

@@ -4,6 +4,7 @@ ghost use Rattle.rollout.specs.inner.Movable.{Movable};
 ghost use Rattle.search.specs.Iterate.{score_in, is_worth, stored_of};
 ghost use Rattle.search.specs.inner.Ready.{plan_of};
 
+use action_set::bits::Bits;
 use craft_context::CraftContext;
 use craft_state::CraftState;
 use refusal::Refusal;
@@ -51,14 +52,14 @@ pub fn planned(
     context: CraftContext,
     threshold: f32,
     state: CraftState,
-    unused: u32,
+    unused: Bits,
     best: f32,
     count: usize,
     records: usize,
     at: usize,
 ) -> Result<Plan, Refusal>
-    requires { Movable context state unused × (at ≤ length draws.now) × (count ≤ records) × (records + length draws.now < 2 ^ 64) }
-    ensures { result ≡ plan_of context threshold state unused best count records at draws.now }
+    requires { Movable context state unused.bits × (at ≤ length draws.now) × (count ≤ records) × (records + length draws.now < 2 ^ 64) }
+    ensures { result ≡ plan_of context threshold state unused.bits best count records at draws.now }
 {
     let (res, end) = rollout::roll_out(context, state, unused, draws, at)?;
     let whole = is_worth(threshold, best, res);

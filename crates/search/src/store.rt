@@ -9,29 +9,31 @@ ghost use Rattle.search.specs.inner.Ready.{Storing, Stores};
 
 use super::links::link;
 use super::select::stepped;
-use action_set::bits;
+use action_set::bits::Bits;
 use craft_context::CraftContext;
 use craft_state::{Craft, CraftState};
 use moves::Mode;
 use tree::{Node, node_at, put_node};
 
+// A record's moves are a plain number, as C reads it: what is known of it is asked for.
 fn without(n: Node, action: u8) -> Node
     requires { SetIn n.unused × (action < actions) }
     ensures { result ≡ drawn_from n action }
 {
+    let unused = Bits { bits: n.unused };
     Node {
-        unused: bits::remove(n.unused, action),
+        unused: unused.remove(action).bits,
         ..n
     }
 }
 
 // The member that the draw at a place names.
 #[tactic(auto, using(action_set::specs::laws::Nth::nth_named))]
-fn sampled(draws: &[u8], at: usize, unused: u32) -> u8
-    requires { (at < length draws.now) × SetIn unused × (slice_index draws.now at < size_of unused) }
-    ensures { (result ≡ nth_of unused (slice_index draws.now at)) × (result < actions) }
+fn sampled(draws: &[u8], at: usize, unused: Bits) -> u8
+    requires { (at < length draws.now) × (slice_index draws.now at < size_of unused.bits) }
+    ensures { (result ≡ nth_of unused.bits (slice_index draws.now at)) × (result < actions) }
 {
-    bits::nth(unused, draws[at])
+    unused.nth(draws[at])
 }
 
 // One record below record k, which loses the action.
@@ -73,10 +75,11 @@ pub fn store_path(
     let mut state = start;
     for i in 0..stored {
         let n = node_at(nodes, end);
-        let action = sampled(draws, at + i, n.unused);
+        let unused = Bits { bits: n.unused };
+        let action = sampled(draws, at + i, unused);
         state = stepped(context, state, action);
         let moves = moves::moves_at_once(Craft { context, state }, Mode::STRICT);
-        insert_below(nodes, links, count + i, end, action, moves);
+        insert_below(nodes, links, count + i, end, action, moves.bits);
         end = count + i;
     }
     end

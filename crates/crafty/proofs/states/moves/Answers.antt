@@ -15,4 +15,4 @@ pub invariant_of-craft : goal.invariant_of-craft
 invariant_of-craft c = record { inside = craft_in _ _ c.in_ok-check.ensures.same refl }
 
 pub returns : goal.returns
-returns c = passed_by (given_tests c.args.context c.args.state) [] c.in_ok-check.ensures.same (answered refl (ap (λ (set : ℕ). Ok (record { 0 = set })) c.legal_moves.ensures.0))
+returns c = passed_by (given_tests c.args.context c.args.state) [] c.in_ok-check.ensures.same (answered refl (ap (λ (set : ℕ). Ok (record { 0 = set })) c.legal_moves.ensures))

@@ -30,7 +30,7 @@ use Rattle.rollout.proofs.rollout.roll_out.Goals.{After-draw, After-attributes_o
 -- what is drawn is drawn of the moves
 drawn : (c : After-draw)
     → let l = c.loop-moves in
-    drawn_of l.moves (drop l.at c.args.draws.now) ≡ c.draw.result
+    drawn_of l.moves.bits (drop l.at c.args.draws.now) ≡ c.draw.result
 drawn c = sym c.draw.ensures
 
 -- ---- where it names one of them
@@ -51,7 +51,7 @@ module _ (c : After-attributes_of) where
   n = c.in_ok-n.n
 
   abbrev set : ℕ
-  set = c.loop-moves.moves
+  set = c.loop-moves.moves.bits
 
   named : drawn_of set (drop at draws) ≡ Ok n
   named = drawn (goal.at.After-attributes_of c).After-draw ∙ c.in_ok-n.was
@@ -79,15 +79,15 @@ module _ (c : After-execute-state) where
       rw moved (legal_keeps attributes_of rows_bounded (context t) (state t) plain (n t) (movable t).inside (known t) (legal t))
 
 -- the strict moves of the state after it are moves of it
-strictly : (c : After-moves_at_once-moves) → Movable (context (goal.at.After-moves_at_once-moves c).After-attributes_of) c.execute-state.result c.moves_at_once-moves.result
+strictly : (c : After-moves_at_once-moves) → Movable (context (goal.at.After-moves_at_once-moves c).After-attributes_of) c.execute-state.result c.moves_at_once-moves.result.bits
 strictly c =
     let t = (goal.at.After-moves_at_once-moves c).After-attributes_of in
     let next = c.execute-state.result in
     record {
       inside = kept (goal.at.After-moves_at_once-moves c).After-execute-state;
-      known = c.moves_at_once-moves.ensures.1;
+      known = c.moves_at_once-moves.result.inside;
       legal = λ n t_has.
-          let is : has (moves_of (context t) next strict) n ≡ true = ap (λ (set : ℕ). has set n) (sym c.moves_at_once-moves.ensures.0) ∙ t_has in
+          let is : has (moves_of (context t) next strict) n ≡ true = ap (λ (set : ℕ). has set n) (sym c.moves_at_once-moves.ensures) ∙ t_has in
           strict_part attributes_of (context t) next n (legal_known attributes_of (context t) next strict n is) is;
     }
 
@@ -104,7 +104,7 @@ loop-moves-preserved c =
     let t = (goal.at.loop-moves-preserved c).After-attributes_of in
     let on = roll_sampled (context t) (state t) (set t) (at t) c.loop-moves-test.true (draws t) (named t) in
     let roll : CraftState → ℕ → Rolled = λ x m. rolled_from (context t) x m (at t + 1) (drop (at t + 1) (draws t)) in (
-      ap (roll c.execute-state.result) c.moves_at_once-moves.ensures.0
+      ap (roll c.execute-state.result) c.moves_at_once-moves.ensures
           ∙ ap (λ (x : CraftState). roll x (strict_moves (context t) x)) (moved (goal.at.loop-moves-preserved c).After-execute-state)
           ∙ sym on ∙ c.loop-moves.invariant.0,
       strictly c,
@@ -120,7 +120,7 @@ returns-in_err-n c =
     let l = c.loop-moves in
     let refused : c.from_residual.result ≡ Err c.in_err-n.field-0.0 = search rules in (
       refused
-          ∙ roll_refused c.args.context l.state l.moves l.at c.loop-moves-test.true (drop l.at c.args.draws.now) (drawn (goal.at.returns-in_err-n c).After-draw ∙ c.in_err-n.was)
+          ∙ roll_refused c.args.context l.state l.moves.bits l.at c.loop-moves-test.true (drop l.at c.args.draws.now) (drawn (goal.at.returns-in_err-n c).After-draw ∙ c.in_err-n.was)
           ∙ l.invariant.0,
       rw refused tt,
     )
@@ -129,7 +129,7 @@ pub returns : goal.returns
 returns c =
     let l = c.loop-moves in (
       ap (λ (r : CraftResult). ends r l.at) c.judge.ensures.0
-          ∙ roll_over c.args.context l.state l.moves l.at c.loop-moves-test.false (drop l.at c.args.draws.now)
+          ∙ roll_over c.args.context l.state l.moves.bits l.at c.loop-moves-test.false (drop l.at c.args.draws.now)
           ∙ l.invariant.0,
       (c.judge.ensures.1, l.invariant.2),
     )

@@ -24,6 +24,11 @@ node_at-n-requires c =
     let here = (goal.at.node_at-n-requires c).After-select-chosen in
     omega (arith, inside here, within here)
 
+pub invariant_of-unused : goal.invariant_of-unused
+invariant_of-unused c =
+    let movable = chosen_movable c.args.context c.args.options c.args.logs.now c.args.draws.now c.args.nodes.now c.args.count c.args.at c.requires.0 c.requires.1 c.select-chosen.ensures c.node_at-n.ensures in
+    record { inside = movable.known }
+
 pub planned-requires : goal.planned-requires
 planned-requires c =
     let here = (goal.at.planned-requires c).After-select-chosen in (

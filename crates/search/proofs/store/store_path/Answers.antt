@@ -20,10 +20,13 @@ named c = c.sampled-action.ensures.0 ∙ ap (λ (m : Node). nth_of m.unused (sli
 pub loop-i-init : goal.loop-i-init
 loop-i-init c = part_first c.requires
 
+pub invariant_of-unused : goal.invariant_of-unused
+invariant_of-unused c = record { inside = rw c.node_at-n.ensures (store_set (part_on c.loop-i.invariant c.loop-i-test.true)) }
+
 pub sampled-action-requires : goal.sampled-action-requires
 sampled-action-requires c =
     let st = part_on c.loop-i.invariant c.loop-i-test.true in
-    rw c.node_at-n.ensures (store_draw st, store_set st, store_low st)
+    rw c.node_at-n.ensures (store_draw st, store_low st)
 
 pub stepped-state-requires : goal.stepped-state-requires
 stepped-state-requires c =
@@ -44,7 +47,7 @@ insert_below-requires c =
 pub loop-i-preserved : goal.loop-i-preserved
 loop-i-preserved c =
     part_more c.loop-i.invariant c.loop-i-test.true (named (goal.at.loop-i-preserved c).After-sampled-action) c.stepped-state.ensures
-    (c.insert_below.ensures.0 ∙ ap (below_of c.loop-i.nodes (c.args.count + c.loop-i.i) c.loop-i.end c.sampled-action.result) c.moves_at_once-moves.ensures.0) c.insert_below.ensures.1
+    (c.insert_below.ensures.0 ∙ ap (below_of c.loop-i.nodes (c.args.count + c.loop-i.i) c.loop-i.end c.sampled-action.result) c.moves_at_once-moves.ensures) c.insert_below.ensures.1
 
 pub returns : goal.returns
 returns c = part_all c.loop-i.invariant c.loop-i-test.false
