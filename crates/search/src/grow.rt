@@ -27,7 +27,7 @@ pub fn grow(
         draws: 0,
     };
     for i in 0..options.iterations {
-        let turned = iterate(
+        match iterate(
             nodes,
             &mut links,
             logs,
@@ -36,8 +36,7 @@ pub fn grow(
             options,
             done.records,
             done.draws,
-        );
-        match turned {
+        ) {
             Ok(turned) => {
                 done = Progress {
                     iterations: i + 1,

@@ -1,11 +1,11 @@
 // One iteration: select, roll out, store, and propagate back.
 ghost use Rattle.std.specs.Prelude.{◌≤◌, length};
 ghost use Rattle.search.specs.Iterate.{iterate_of};
-ghost use Rattle.search.specs.inner.Ready.{Ready, Turns};
+ghost use Rattle.search.specs.inner.Ready.{Ready, Storing, Carried, Turns};
 
 use super::options::SearchOptions;
-use super::plan::planned;
-use super::select::select;
+use super::plan::{Plan, planned};
+use super::select::{Chosen, select};
 use super::store::store_path;
 use action_set::bits::Bits;
 use craft_context::CraftContext;
@@ -19,8 +19,36 @@ pub struct Turned {
     pub at: usize,
 }
 
-// One that is refused leaves the records and the index as they were. Else the path is stored, and the score propagated from its end. What is lent and
-// asked goes in part to each step, so a struct of it would be taken apart here.
+// The path is stored, and the score propagated from its end.
+fn carry_out(
+    nodes: &mut [Node],
+    links: &mut [u32],
+    draws: &[u8],
+    context: CraftContext,
+    chosen: Chosen,
+    plan: Plan,
+    count: usize,
+    at: usize,
+)
+    requires { Storing context chosen.state nodes.old count chosen.at links.old draws.now at plan.stored }
+    ensures { Carried context chosen.state nodes.old count chosen.at draws.now at plan.stored plan.score nodes.new links.new }
+{
+    let end = store_path(
+        nodes,
+        links,
+        draws,
+        context,
+        chosen.state,
+        count,
+        chosen.at,
+        at,
+        plan.stored,
+    );
+    touch_path(nodes, end, 0, plan.score);
+}
+
+// One that is refused leaves the records and the index as they were. What is lent and asked goes in part to each step, so a struct of it would be
+// taken apart here.
 pub fn iterate(
     nodes: &mut [Node],
     links: &mut [u32],
@@ -49,18 +77,7 @@ pub fn iterate(
         nodes.len(),
         at,
     )?;
-    let end = store_path(
-        nodes,
-        links,
-        draws,
-        context,
-        chosen.state,
-        count,
-        chosen.at,
-        at,
-        plan.stored,
-    );
-    touch_path(nodes, end, 0, plan.score);
+    carry_out(nodes, links, draws, context, chosen, plan, count, at);
     Ok(Turned {
         count: count + plan.stored,
         at: plan.at,

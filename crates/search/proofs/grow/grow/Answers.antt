@@ -7,14 +7,14 @@ use Rattle.search.proofs.grow.grow.Goals as goal
 pub loop-i-init : goal.loop-i-init
 loop-i-init c = going_first _ _ _ _ _ c.requires _ refl refl
 
-pub iterate-turned-requires : goal.iterate-turned-requires
-iterate-turned-requires c = (going_ready _ _ _ _ _ c.loop-i.invariant c.loop-i-test.true, c.loop-i.invariant.place)
+pub iterate-requires : goal.iterate-requires
+iterate-requires c = (going_ready _ _ _ _ _ c.loop-i.invariant c.loop-i-test.true, c.loop-i.invariant.place)
 
 pub loop-i-preserved : goal.loop-i-preserved
-loop-i-preserved c = going_on _ _ _ _ _ c.loop-i.invariant c.loop-i-test.true c.iterate-turned.ensures c.in-Ok.is
+loop-i-preserved c = going_on _ _ _ _ _ c.loop-i.invariant c.loop-i-test.true c.iterate.ensures c.in-Ok.is
 
 pub returns-in-Err : goal.returns-in-Err
-returns-in-Err c = going_stops _ _ _ _ _ c.loop-i.invariant c.loop-i-test.true c.iterate-turned.ensures c.in-Err.is
+returns-in-Err c = going_stops _ _ _ _ _ c.loop-i.invariant c.loop-i-test.true c.iterate.ensures c.in-Err.is
 
 pub returns : goal.returns
 returns c = going_ends _ _ _ _ _ c.loop-i.invariant c.loop-i-test.false

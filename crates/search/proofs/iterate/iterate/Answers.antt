@@ -3,7 +3,6 @@
 use Rattle.std.proofs.Common.{◌≡◌, ◌<◌, ◌≤◌, length, refl, arith}
 use Rattle.std.proofs.lemmas.Result.{err_from_is_err_and}
 use Rattle.search.specs.laws.Planned.{plan, chosen_inside, chosen_movable, chosen_plan, plan_refused, plan_storing, plan_turns}
-use Rattle.search.specs.laws.Storing.{stored_reaches, carried}
 use Rattle.search.proofs.iterate.iterate.Goals as goal
 use Rattle.search.proofs.iterate.iterate.Goals.{After-select-chosen, After-planned}
 
@@ -47,17 +46,13 @@ returns-in_err-plan c =
 
 -- a plan that passed is one to carry out:
 -- its path may be stored
-pub store_path-end-requires : goal.store_path-end-requires
-store_path-end-requires c =
+pub carry_out-requires : goal.carry_out-requires
+carry_out-requires c =
     plan_storing c.args.context c.args.options c.args.logs.now c.args.draws.now c.args.nodes.now c.args.count c.args.at c.requires.0 c.requires.1 c.select-chosen.ensures
-    (plan_is (goal.at.store_path-end-requires c).After-planned) c.in_ok-plan.was
-
--- reaches record 0
-pub touch_path-requires : goal.touch_path-requires
-touch_path-requires c = stored_reaches c.store_path-end.ensures
+    (plan_is (goal.at.carry_out-requires c).After-planned) c.in_ok-plan.was
 
 -- and what was carried out and counted is the definition's iteration
 pub returns : goal.returns
 returns c =
     plan_turns c.args.context c.args.options c.args.logs.now c.args.draws.now c.args.nodes.now c.args.count c.args.at c.requires.0 c.requires.1 c.select-chosen.ensures
-    (plan_is (goal.at.returns c).After-planned) c.in_ok-plan.was (carried c.store_path-end.ensures c.touch_path.ensures)
+    (plan_is (goal.at.returns c).After-planned) c.in_ok-plan.was c.carry_out.ensures
