@@ -1,6 +1,8 @@
 -- `action_set::bits::of_list` meets its contract: what is left of the list is still to be joined.
 -- Assumes nothing.
 use mathlib.Core.Path.{sym, ap, ◌∙◌}
+use native.Mathlib.Omega.{arith}
+use Rattle.std.proofs.lemmas.Grind.{common_steps}
 use lib.Pow.{pow_pos}
 use lib.ListN.{drop_of_length-le}
 use Rattle.action.specs.Known.{actions}
@@ -18,7 +20,7 @@ pub loop-n-init : goal.loop-n-init
 loop-n-init c = (joined_start _, pow_pos actions)
 
 pub add-s-requires : goal.add-s-requires
-add-s-requires c = known_each _ c.requires _ c.loop-n-test.true
+add-s-requires c = grind (arith, common_steps, known_each c.args.list.now c.requires)
 
 pub loop-n-preserved : goal.loop-n-preserved
 loop-n-preserved c = (joined_turn _ _ _ c.loop-n-test.true c.add-s.ensures ∙ c.loop-n.invariant.0, c.add-s.result.inside)
