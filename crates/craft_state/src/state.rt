@@ -25,9 +25,9 @@ pub struct CraftState {
     pub previous_combo_action: Option<Combo>,
     pub quick_innovation_available: bool,
     pub trained_perfection_active: Perfection,
-    pub buffs: Buffs,
     // The action that led here, which may be any number.
     pub action: Option<u8>,
+    pub buffs: Buffs,
 }
 
 // Where a craft starts.

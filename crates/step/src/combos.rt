@@ -8,7 +8,7 @@ use super::quality::on_basic_touch;
 use action::Combo;
 use craft_state::{CraftState, renewed};
 
-#[inline(always)]
+#[inline]
 #[tactic(auto, unfolding(crate::specs::Step::paid_of))]
 pub fn paid(state: CraftState, n: u8, attribute: Option<u32>) -> CraftState
     requires { Payable state.cp state.previous_combo_action n attribute }
@@ -18,13 +18,12 @@ pub fn paid(state: CraftState, n: u8, attribute: Option<u32>) -> CraftState
         return state;
     };
     let price = action::calc_cp_cost(n, state.previous_combo_action, cost);
-    CraftState {
-        cp: state.cp - price,
-        ..state
-    }
+    let mut next = state;
+    next.cp = state.cp - price;
+    next
 }
 
-#[inline(always)]
+#[inline]
 fn next_combo(combo: Option<Combo>, n: u8) -> Option<Combo>
     ensures { result ≡ combo_after combo n }
 {
@@ -37,7 +36,7 @@ fn next_combo(combo: Option<Combo>, n: u8) -> Option<Combo>
     }
 }
 
-#[inline(always)]
+#[inline]
 #[tactic(auto, unfolding(crate::specs::Step::combined_of, craft_state::specs::Start::renewed_of))]
 pub fn combined(state: CraftState, n: u8) -> CraftState
     ensures { result ≡ combined_of state n }

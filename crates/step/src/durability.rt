@@ -13,7 +13,7 @@ use craft_state::{CraftState, Perfection, renewed};
 const MANIPULATION_MENDS: u32 = 5;
 
 // A base cost above 0 spends an active trained perfection.
-#[inline(always)]
+#[inline]
 fn spend(perfection: Perfection, cost: u32) -> Perfection
     ensures { result ≡ spent perfection cost }
 {
@@ -24,7 +24,7 @@ fn spend(perfection: Perfection, cost: u32) -> Perfection
 }
 
 // What a cost comes to in this state.
-#[inline(always)]
+#[inline]
 pub fn wears(state: CraftState, cost: u32) -> u32
     requires { cost ≤ wear_most }
     ensures { (result ≡ wear state cost) × (result ≤ wear_most) }
@@ -46,7 +46,7 @@ pub struct Durability {
 }
 
 impl Durability {
-    #[inline(always)]
+    #[inline]
     fn worn_by(self, cost: u32) -> i8
         requires { cost ≤ wear_most }
         ensures { result ≡ self.now -ℤ pos cost }
@@ -55,7 +55,7 @@ impl Durability {
     }
 
     // Given back, up to the most.
-    #[inline(always)]
+    #[inline]
     pub fn mended_by(self, by: u32) -> i8
         requires { by ≤ masters_mends }
         ensures { result ≡ mended_of self.now by self.most }
@@ -63,7 +63,7 @@ impl Durability {
         (self.now + by as i8).min(self.most)
     }
 
-    #[inline(always)]
+    #[inline]
     fn refreshed_by(self, manipulation: u8) -> i8
         ensures { result ≡ refreshed_to self.now manipulation self.most }
     {
@@ -74,7 +74,7 @@ impl Durability {
     }
 }
 
-#[inline(always)]
+#[inline]
 #[tactic(auto, unfolding(crate::specs::Step::worn_of, craft_state::specs::Start::renewed_of))]
 pub fn worn(context: CraftContext, state: CraftState, attribute: Option<u32>) -> CraftState
     requires { DurabilityIn state.durability context.durability_max × AtMost wear_most attribute }
@@ -94,7 +94,7 @@ pub fn worn(context: CraftContext, state: CraftState, attribute: Option<u32>) ->
 }
 
 // What manipulation gives back.
-#[inline(always)]
+#[inline]
 #[tactic(auto, unfolding(crate::specs::Step::refreshed_of))]
 pub fn refreshed(context: CraftContext, state: CraftState) -> CraftState
     requires { DurabilityIn state.durability context.durability_max }
@@ -104,8 +104,7 @@ pub fn refreshed(context: CraftContext, state: CraftState) -> CraftState
         now: state.durability,
         most: context.durability_max,
     };
-    CraftState {
-        durability: durability.refreshed_by(state.buffs.manipulation),
-        ..state
-    }
+    let mut next = state;
+    next.durability = durability.refreshed_by(state.buffs.manipulation);
+    next
 }

@@ -1,7 +1,7 @@
 // Parts 8 and 9: the timers fall, and the action's effects, which come last.
 ghost use Rattle.std.specs.Prelude.{◌≡◌};
 ghost use Rattle.craft_state.specs.Inside.{DurabilityIn};
-ghost use Rattle.step.specs.Parts.{ticked_of, mend_after, perfected_by};
+ghost use Rattle.step.specs.Parts.{mend_after, perfected_by};
 ghost use Rattle.step.specs.Step.{timed_of, buffed_of, affected_of};
 
 use super::durability::Durability;
@@ -10,41 +10,28 @@ use craft_state::{Buffs, CraftState, Perfection, renewed};
 
 const MASTERS_MENDS: u32 = 30;
 
-// Inner quiet is no timer.
-#[inline(always)]
-#[tactic(auto, unfolding(crate::specs::Parts::ticked_of))]
-fn ticked(buffs: Buffs) -> Buffs
-    ensures { result ≡ ticked_of buffs }
-{
-    Buffs {
-        waste_not: buffs.waste_not.saturating_sub(1),
-        waste_not_ii: buffs.waste_not_ii.saturating_sub(1),
-        manipulation: buffs.manipulation.saturating_sub(1),
-        great_strides: buffs.great_strides.saturating_sub(1),
-        innovation: buffs.innovation.saturating_sub(1),
-        veneration: buffs.veneration.saturating_sub(1),
-        muscle_memory: buffs.muscle_memory.saturating_sub(1),
-        ..buffs
-    }
-}
-
-// QuickInnovation takes no step.
-#[inline(always)]
-#[tactic(auto, unfolding(crate::specs::Step::timed_of))]
+// QuickInnovation takes no step, and inner quiet is no timer.
+#[inline]
+#[tactic(auto, unfolding(crate::specs::Step::timed_of, crate::specs::Parts::ticked_of))]
 pub fn timed(state: CraftState, n: u8) -> CraftState
     ensures { result ≡ timed_of state n }
 {
     if n == action::QUICK_INNOVATION {
         return state;
     }
-    CraftState {
-        buffs: ticked(state.buffs),
-        ..state
-    }
+    let mut next = state;
+    next.buffs.waste_not = state.buffs.waste_not.saturating_sub(1);
+    next.buffs.waste_not_ii = state.buffs.waste_not_ii.saturating_sub(1);
+    next.buffs.manipulation = state.buffs.manipulation.saturating_sub(1);
+    next.buffs.great_strides = state.buffs.great_strides.saturating_sub(1);
+    next.buffs.innovation = state.buffs.innovation.saturating_sub(1);
+    next.buffs.veneration = state.buffs.veneration.saturating_sub(1);
+    next.buffs.muscle_memory = state.buffs.muscle_memory.saturating_sub(1);
+    next
 }
 
 // What the action sets among the buffs.
-#[inline(always)]
+#[inline]
 #[tactic(auto, unfolding(crate::specs::Parts::effect_of))]
 fn buffed(state: CraftState, n: u8) -> CraftState
     ensures { result ≡ buffed_of state n }
@@ -70,7 +57,7 @@ fn buffed(state: CraftState, n: u8) -> CraftState
     next
 }
 
-#[inline(always)]
+#[inline]
 fn mended(durability: Durability, n: u8) -> i8
     ensures { result ≡ mend_after n durability.now durability.most }
 {
@@ -81,7 +68,7 @@ fn mended(durability: Durability, n: u8) -> i8
     }
 }
 
-#[inline(always)]
+#[inline]
 fn perfected(n: u8, perfection: Perfection) -> Perfection
     ensures { result ≡ perfected_by n perfection }
 {
@@ -91,7 +78,7 @@ fn perfected(n: u8, perfection: Perfection) -> Perfection
     perfection
 }
 
-#[inline(always)]
+#[inline]
 #[tactic(auto, unfolding(crate::specs::Step::affected_of, craft_state::specs::Start::renewed_of))]
 pub fn affected(context: CraftContext, state: CraftState, n: u8) -> CraftState
     requires { DurabilityIn state.durability context.durability_max }

@@ -1,4 +1,5 @@
 // One action on a state, as a chain of small functions in document 01's order.
+// Each part changes fields of a copy: with `CraftState { cp, ..state }`, which moves the buffs as one number, a replay took 8 % longer.
 
 #![tactic(auto)]
 

@@ -5,10 +5,10 @@ ghost use Rattle.step.specs.Step.{begun_of, progressed_of};
 ghost use Rattle.step.specs.inner.Asked.{Progressing};
 
 use craft_context::CraftContext;
-use craft_state::{Buffs, CraftState, renewed};
+use craft_state::{CraftState, renewed};
 
 // QuickInnovation takes no step.
-#[inline(always)]
+#[inline]
 #[tactic(auto, unfolding(crate::specs::Step::begun_of, craft_state::specs::Start::renewed_of))]
 pub fn begun(state: CraftState, n: u8) -> CraftState
     requires { state.step < step_most }
@@ -23,7 +23,7 @@ pub fn begun(state: CraftState, n: u8) -> CraftState
 }
 
 // Muscle memory is used up.
-#[inline(always)]
+#[inline]
 #[tactic(auto, unfolding(crate::specs::Step::progressed_of))]
 pub fn progressed(context: CraftContext, state: CraftState, attribute: Option<u32>) -> CraftState
     requires { Progressing context state attribute }
@@ -38,12 +38,8 @@ pub fn progressed(context: CraftContext, state: CraftState, attribute: Option<u3
         state.buffs.veneration,
         state.buffs.muscle_memory,
     );
-    CraftState {
-        progress: state.progress + gain,
-        buffs: Buffs {
-            muscle_memory: 0,
-            ..state.buffs
-        },
-        ..state
-    }
+    let mut next = state;
+    next.progress = state.progress + gain;
+    next.buffs.muscle_memory = 0;
+    next
 }

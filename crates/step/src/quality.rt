@@ -13,7 +13,7 @@ use craft_state::{Buffs, CraftState};
 // The player's level from which inner quiet moves.
 const QUIET_LEVEL: u32 = 11;
 
-#[inline(always)]
+#[inline]
 fn gain(context: CraftContext, state: CraftState, n: u8, efficiency: u32) -> u32
     requires { Touching context state × (efficiency ≤ quality_most) }
     ensures { (result ≡ quality_gain context state n efficiency) × (result ≤ gain_most) }
@@ -29,7 +29,7 @@ fn gain(context: CraftContext, state: CraftState, n: u8, efficiency: u32) -> u32
     )
 }
 
-#[inline(always)]
+#[inline]
 pub fn on_basic_touch(combo: Option<Combo>) -> bool
     ensures { result ≡ on_basic_touch combo }
 {
@@ -37,7 +37,7 @@ pub fn on_basic_touch(combo: Option<Combo>) -> bool
 }
 
 // These raise inner quiet by 2.
-#[inline(always)]
+#[inline]
 fn doubles(n: u8, combo: Option<Combo>) -> bool
     ensures { result ≡ doubles_quiet n combo }
 {
@@ -46,7 +46,7 @@ fn doubles(n: u8, combo: Option<Combo>) -> bool
         | ((n == action::REFINED_TOUCH) & on_basic_touch(combo))
 }
 
-#[inline(always)]
+#[inline]
 fn next_quiet(level: u32, quiet: u8, n: u8, combo: Option<Combo>) -> u8
     requires { quiet ≤ quiet_most }
     ensures { result ≡ quiet_to level quiet n combo }
@@ -62,7 +62,7 @@ fn next_quiet(level: u32, quiet: u8, n: u8, combo: Option<Combo>) -> u8
 }
 
 // Great strides is used up.
-#[inline(always)]
+#[inline]
 #[tactic(auto, unfolding(crate::specs::Step::improved_of))]
 pub fn improved(
     context: CraftContext,
@@ -78,13 +78,9 @@ pub fn improved(
     };
     let combo = state.previous_combo_action;
     let quiet = next_quiet(context.player_job_level, state.buffs.inner_quiet, n, combo);
-    CraftState {
-        quality: state.quality + gain(context, state, n, efficiency),
-        buffs: Buffs {
-            inner_quiet: quiet,
-            great_strides: 0,
-            ..state.buffs
-        },
-        ..state
-    }
+    let mut next = state;
+    next.quality = state.quality + gain(context, state, n, efficiency);
+    next.buffs.inner_quiet = quiet;
+    next.buffs.great_strides = 0;
+    next
 }
