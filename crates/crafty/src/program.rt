@@ -21,6 +21,7 @@ const REFUSED_MOST: usize = 19;
 const SHORT: usize = 1024;
 
 // A list of words, before which `base` bytes of the input stand, read into one room, and its replay in a context rendered into another.
+// A `match`: in a `map_err` the sum of the offset would need a clause that it fits.
 fn render_list(
     context: CraftContext,
     words: &[u8],

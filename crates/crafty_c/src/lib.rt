@@ -1,6 +1,6 @@
 // The engine for hosts in C and Rust: a static library of functions on numbers, bytes and records, which include/crafty.h declares.
 // Every function takes any of these, and refuses by a fixed number; a refusal leaves what was lent as it was, but for the records of the iterations that a
-// search did before it.
+// search did before it. Kinds and refusals are numbers, flags and fifteen numbers stand apart and records are flat, as C has them.
 
 #![tactic(auto, unfolding(refusal::specs::Judge::judged))]
 

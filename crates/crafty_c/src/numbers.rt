@@ -37,6 +37,7 @@ pub struct CraftyState {
     pub last_action: u32,
 }
 
+// A `match`, since one case holds a score: the enum has no numbers to cast.
 fn verdict(res: CraftResult) -> u32
     ensures { result ≡ verdict_of res }
 {
