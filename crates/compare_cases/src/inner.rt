@@ -1,7 +1,11 @@
-// Kinds 18 to 20: the inner functions of one action, inside the limits that compare/ has too.
-use compare_lines::{case, say};
+// The inner functions of one action, inside the limits that compare/ has too.
+ghost use Rattle.std.specs.Prelude.{◌≡◌, ◌≤◌, IfSome};
+
+use compare_lines::case;
+use compare_lines::run::Page;
 use crafty::{Buffs, CraftContext};
 use std::io;
+use std::io::Write;
 
 const LAST_ACTION: u32 = 30;
 
@@ -18,107 +22,56 @@ const ACTIVE: u32 = 1;
 
 const SPENT: u32 = 2;
 
-fn outside(rt: &impl Print) -> io::Result<()> {
-    say::text(rt, b"outside")
+// Number i, if it is inside its limit.
+fn within(line: &[u8], i: u8, most: u32) -> Option<u32>
+    ensures { IfSome result (λ n. n ≤ most) }
+{
+    let n = case::number(line, i);
+    if n <= most { Some(n) } else { None }
 }
 
-fn progress_increase(rt: &impl Print, line: &[u8]) -> io::Result<()> {
-    let base = case::number(line, 0);
-    let efficiency = case::number(line, 1);
-    let veneration = case::number(line, 2);
-    let muscle_memory = case::number(line, 3);
-    if base > CraftContext::FACTOR_MOST {
-        return outside(rt);
-    }
-    if efficiency > PROGRESS {
-        return outside(rt);
-    }
-    if veneration > TIMER {
-        return outside(rt);
-    }
-    if muscle_memory > TIMER {
-        return outside(rt);
-    }
-    let gain = action::calc_progress_increase(
-        base,
-        efficiency,
-        veneration as u8,
-        muscle_memory as u8,
-    );
-    say::number(rt, gain as u64)
+fn timer(line: &[u8], i: u8) -> Option<u8> {
+    Some(within(line, i, TIMER)? as u8)
 }
 
-fn quality_increase(rt: &impl Print, line: &[u8]) -> io::Result<()> {
-    let n = case::number(line, 0);
-    let base = case::number(line, 1);
-    let efficiency = case::number(line, 2);
-    let inner_quiet = case::number(line, 3);
-    let innovation = case::number(line, 4);
-    let great_strides = case::number(line, 5);
-    let missing = case::number(line, 6);
-    if n > LAST_ACTION {
-        return outside(rt);
-    }
-    if base > CraftContext::FACTOR_MOST {
-        return outside(rt);
-    }
-    if efficiency > QUALITY {
-        return outside(rt);
-    }
-    if inner_quiet > Buffs::INNER_QUIET_MOST as u32 {
-        return outside(rt);
-    }
-    if innovation > TIMER {
-        return outside(rt);
-    }
-    if great_strides > TIMER {
-        return outside(rt);
-    }
-    if missing > CraftContext::TARGET_MOST {
-        return outside(rt);
-    }
-    let gain = action::calc_quality_increase(
-        n as u8,
+pub fn progress_increase(line: &[u8]) -> Option<u32> {
+    let base = within(line, 0, CraftContext::FACTOR_MOST)?;
+    let efficiency = within(line, 1, PROGRESS)?;
+    let veneration = timer(line, 2)?;
+    let muscle_memory = timer(line, 3)?;
+    Some(action::calc_progress_increase(base, efficiency, veneration, muscle_memory))
+}
+
+pub fn quality_increase(line: &[u8]) -> Option<u32> {
+    let n = within(line, 0, LAST_ACTION)? as u8;
+    let base = within(line, 1, CraftContext::FACTOR_MOST)?;
+    let efficiency = within(line, 2, QUALITY)?;
+    let inner_quiet = within(line, 3, Buffs::INNER_QUIET_MOST as u32)? as u8;
+    let innovation = timer(line, 4)?;
+    let great_strides = timer(line, 5)?;
+    let missing = within(line, 6, CraftContext::TARGET_MOST)?;
+    Some(action::calc_quality_increase(
+        n,
         missing,
         base,
         efficiency,
-        inner_quiet as u8,
-        innovation as u8,
-        great_strides as u8,
-    );
-    say::number(rt, gain as u64)
+        inner_quiet,
+        innovation,
+        great_strides,
+    ))
 }
 
-fn durability_cost(rt: &impl Print, line: &[u8]) -> io::Result<()> {
-    let base = case::number(line, 0);
-    let perfection = case::number(line, 1);
-    let waste_not = case::number(line, 2);
-    let waste_not_ii = case::number(line, 3);
-    if base > WEAR {
-        return outside(rt);
-    }
-    if perfection > SPENT {
-        return outside(rt);
-    }
-    if waste_not > TIMER {
-        return outside(rt);
-    }
-    if waste_not_ii > TIMER {
-        return outside(rt);
-    }
-    let cost = action::calc_durability_cost(
-        base,
-        perfection == ACTIVE,
-        waste_not as u8,
-        waste_not_ii as u8,
-    );
-    say::number(rt, cost as u64)
+pub fn durability_cost(line: &[u8]) -> Option<u32> {
+    let base = within(line, 0, WEAR)?;
+    let perfection = within(line, 1, SPENT)?;
+    let waste_not = timer(line, 2)?;
+    let waste_not_ii = timer(line, 3)?;
+    Some(action::calc_durability_cost(base, perfection == ACTIVE, waste_not, waste_not_ii))
 }
 
-pub fn answer(rt: &impl Print, kind: u64, line: &[u8]) -> io::Result<()> {
-    match kind {
-        18 => progress_increase(rt, line),
-        19 => quality_increase(rt, line),
-        _ => durability_cost(rt, line),
+pub fn put(page: &mut Page, answer: Option<u32>) -> io::Result<()> {
+    match answer {
+        Some(n) => write!(page, "{n}"),
+        None => write!(page, "outside"),
     }
 }

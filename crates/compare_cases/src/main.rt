@@ -2,7 +2,9 @@
 
 #![tactic(auto)]
 
-use compare_lines::{block, case, say};
+use compare_lines::case;
+use compare_lines::kind::Kind;
+use compare_lines::run::{Page, run};
 use std::io;
 
 mod inner;
@@ -12,43 +14,33 @@ mod of_sets;
 
 const WIDTH: usize = 256;
 
-// A whole number of lines.
-const BLOCK: usize = 4096;
-
-fn answer(rt: &impl Print, line: &[u8]) -> io::Result<()> {
-    let kind = case::kind(line);
-    match kind {
-        1..=7 => of_actions::answer(rt, kind, line)?,
-        8..=17 => of_sets::answer(rt, kind, line)?,
-        18..=20 => inner::answer(rt, kind, line)?,
-        _ => of_contexts::answer(rt, line)?,
+// What is no other kind's is read as a context.
+fn answer(page: &mut Page, line: &[u8]) -> io::Result<()> {
+    match case::kind(line).unwrap_or(Kind::Context) {
+        Kind::Attributes => of_actions::attributes(page, line),
+        Kind::Price => of_actions::price(page, line),
+        Kind::Wait => of_actions::wait(page, line),
+        Kind::Name => of_actions::text(page, line, |n, out| crafty::name(n, out)),
+        Kind::Label => of_actions::text(page, line, |n, out| crafty::label(n, out)),
+        Kind::MacroText => of_actions::text(page, line, |n, out| crafty::macro_text(n, out)),
+        Kind::FromName => of_actions::from_name(page, line),
+        Kind::FromBits => of_sets::from_bits(page, line),
+        Kind::FromList => of_sets::from_list(page, line),
+        Kind::Contains => of_sets::contains(page, line),
+        Kind::Set => of_sets::set(page, line),
+        Kind::Unset => of_sets::unset(page, line),
+        Kind::Len => of_sets::len(page, line),
+        Kind::IsEmpty => of_sets::is_empty(page, line),
+        Kind::Highest => of_sets::highest(page, line),
+        Kind::Members => of_sets::members(page, line),
+        Kind::Keep => of_sets::keep(page, line),
+        Kind::ProgressIncrease => inner::put(page, inner::progress_increase(line)),
+        Kind::QualityIncrease => inner::put(page, inner::quality_increase(line)),
+        Kind::DurabilityCost => inner::put(page, inner::durability_cost(line)),
+        _ => of_contexts::context(page, line),
     }
-    say::text(rt, b"\n")
 }
 
-fn answer_all(rt: &impl Print, lines: &[u8]) -> io::Result<()> {
-    let mut left = lines.len() / WIDTH;
-    let mut at = 0;
-    while left > 0 {
-        answer(rt, &lines[at..at + WIDTH])?;
-        at += WIDTH;
-        left -= 1;
-    }
-    Ok(())
-}
-
-// Block after block, up to a hundred million lines.
 fn main(rt: HostRuntime) -> io::Result<()> {
-    let mut input = rt.stdin();
-    let mut bytes = [0u8; BLOCK];
-    let mut blocks: u32 = 6250000;
-    while blocks > 0 {
-        let got = block::fill(&mut input, &mut bytes)?;
-        answer_all(&rt, &bytes[..got])?;
-        if got < BLOCK {
-            return Ok(());
-        }
-        blocks -= 1;
-    }
-    Ok(())
+    run::<WIDTH, _>(&rt, answer)
 }

@@ -1,91 +1,64 @@
-// Kinds 1 to 7: single actions.
-use compare_lines::{case, say};
-use crafty::{Attributed, Combo, Named, Priced, Timed, Written};
-use std::io;
+// Single actions.
+use compare_lines::case;
+use compare_lines::page::{Answer, OrDash};
+use compare_lines::run::Page;
+use crafty::{Attributes, Refusal};
+use std::io::Write;
+use std::{fmt, io};
 
 // What a room holds before.
 const DOT: u8 = b'.';
 
-fn attributes(rt: &impl Print, n: u8) -> io::Result<()> {
-    let answer = crafty::attributes(n);
-    match answer {
-        Attributed::Row(row) => {
-            say::number(rt, row.level as u64)?;
-            say::text(rt, b" ")?;
-            let progress = row.progress_efficiency;
-            say::amount(rt, progress)?;
-            say::text(rt, b" ")?;
-            let quality = row.quality_efficiency;
-            say::amount(rt, quality)?;
-            say::text(rt, b" ")?;
-            let durability = row.durability_cost;
-            say::amount(rt, durability)?;
-            say::text(rt, b" ")?;
-            let cp = row.cp_cost;
-            say::amount(rt, cp)
-        }
-        Attributed::Refused(x) => say::refused(rt, x),
+// A row of the table, field by field.
+#[derive(Clone, Copy)]
+struct Row(Attributes);
+
+impl fmt::Display for Row {
+    fn fmt<W: fmt::Write>(&self, f: &mut fmt::Formatter<W>) -> fmt::Result {
+        let row = self.0;
+        write!(f, "{} {}", row.level, OrDash(row.progress_efficiency))?;
+        write!(
+            f,
+            " {} {}",
+            OrDash(row.quality_efficiency),
+            OrDash(row.durability_cost)
+        )?;
+        write!(f, " {}", OrDash(row.cp_cost))
     }
 }
 
-fn price(rt: &impl Print, n: u8, on: Combo) -> io::Result<()> {
-    let answer = crafty::price(n, on);
-    match answer {
-        Priced::Costs(cost) => say::amount(rt, cost),
-        Priced::Refused(x) => say::refused(rt, x),
-    }
+pub fn attributes(page: &mut Page, line: &[u8]) -> io::Result<()> {
+    let row = crafty::attributes(case::byte(line, 0));
+    write!(page, "{}", Answer(row.map(Row)))
 }
 
-fn wait(rt: &impl Print, n: u8) -> io::Result<()> {
-    let answer = crafty::wait(n);
-    match answer {
-        Timed::Seconds(s) => say::number(rt, s as u64),
-        Timed::Refused(x) => say::refused(rt, x),
-    }
+pub fn price(page: &mut Page, line: &[u8]) -> io::Result<()> {
+    let cost = crafty::price(case::byte(line, 0), case::combo(line, 1));
+    write!(page, "{}", Answer(cost.map(OrDash)))
 }
 
-fn written(kind: u64, n: u8, room: &mut [u8]) -> Written {
-    match kind {
-        4 => crafty::name(n, room),
-        5 => crafty::label(n, room),
-        _ => crafty::macro_text(n, room),
-    }
+pub fn wait(page: &mut Page, line: &[u8]) -> io::Result<()> {
+    write!(page, "{}", Answer(crafty::wait(case::byte(line, 0))))
 }
 
-fn in_room(rt: &impl Print, kind: u64, n: u8, room: &mut [u8]) -> io::Result<()> {
-    let answer = written(kind, n, room);
-    match answer {
-        Written::Length(k) => say::number(rt, k as u64)?,
-        Written::Refused(x) => say::refused(rt, x)?,
-    }
-    say::text(rt, b" ")?;
-    say::text(rt, room)
-}
-
-fn text(rt: &impl Print, kind: u64, n: u8, size: usize) -> io::Result<()> {
+// One of an action's texts, and the whole room after the call.
+pub fn text<P: Fn(u8, &mut [u8]) -> Result<usize, Refusal>>(
+    page: &mut Page,
+    line: &[u8],
+    put: P,
+) -> io::Result<()>
+    requires { P.IsAlwaysCallable put }
+{
     let mut room = [DOT; 64];
+    let size = case::number(line, 1) as usize;
     if size <= 64 {
-        return in_room(rt, kind, n, &mut room[..size]);
+        let lent = &mut room[..size];
+        write!(page, "{} ", Answer(put(case::byte(line, 0), lent)))?;
+        page.write_all(lent)?;
     }
     Ok(())
 }
 
-fn from_name(rt: &impl Print, word: &[u8]) -> io::Result<()> {
-    let answer = crafty::from_name(word);
-    match answer {
-        Named::Action(n) => say::number(rt, n as u64),
-        Named::Refused(x) => say::refused(rt, x),
-    }
-}
-
-pub fn answer(rt: &impl Print, kind: u64, line: &[u8]) -> io::Result<()> {
-    let n = case::byte(line, 0);
-    let second = case::number(line, 1);
-    match kind {
-        1 => attributes(rt, n),
-        2 => price(rt, n, case::combo(line, 1)),
-        3 => wait(rt, n),
-        7 => from_name(rt, case::text(line)),
-        _ => text(rt, kind, n, second as usize),
-    }
+pub fn from_name(page: &mut Page, line: &[u8]) -> io::Result<()> {
+    write!(page, "{}", Answer(crafty::from_name(case::text(line))))
 }

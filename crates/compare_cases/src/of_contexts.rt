@@ -1,12 +1,13 @@
-// Kind 21: a context from player, recipe and options.
-ghost use Rattle.std.specs.Prelude.{◌<◌};
+// A context from player, recipe and options.
+use compare_lines::case;
+use compare_lines::page::Answer;
+use compare_lines::run::Page;
+use crafty::{CraftContext, CraftOptions, Player, Recipe};
+use std::io::Write;
+use std::{fmt, io};
 
-use compare_lines::{case, say};
-use crafty::{Built, CraftContext, CraftOptions, Given, Player, Recipe};
-use std::io;
-
-// The flags, by their weights in the last number.
-const FLAGS: usize = 18;
+// The flags, by their bits in the last number.
+const FLAGS: u8 = 18;
 
 const SPECIALIST: u32 = 1;
 
@@ -20,19 +21,12 @@ const HAS_QUALITY_TARGET: u32 = 16;
 
 const EXPERT: u32 = 32;
 
-fn flag(line: &[u8], weight: u32) -> bool
-    requires { 0 < weight }
-{
-    case::number(line, FLAGS) / weight % 2 == 1
+fn flag(line: &[u8], bit: u32) -> bool {
+    case::number(line, FLAGS) & bit != 0
 }
 
-fn given(line: &[u8], i: usize, weight: u32) -> Given
-    requires { (i < 19) × (0 < weight) }
-{
-    if flag(line, weight) {
-        return Given::Value(case::number(line, i));
-    }
-    Given::Nothing
+fn given(line: &[u8], i: u8, bit: u32) -> Option<u32> {
+    flag(line, bit).then_some(case::number(line, i))
 }
 
 // Numbers have no sign in a case: three negative ones stand for all.
@@ -40,8 +34,7 @@ fn durability(number: u32) -> i8 {
     match number {
         128 => -1,
         129 => -19,
-        0..=127 => (number % 128) as i8,
-        _ => -128,
+        _ => i8::try_from(number).unwrap_or(-128),
     }
 }
 
@@ -73,7 +66,7 @@ fn recipe(line: &[u8]) -> Recipe {
 
 fn options(line: &[u8]) -> CraftOptions {
     CraftOptions {
-        max_steps: (case::number(line, 15) % 256) as u8,
+        max_steps: case::byte(line, 15),
         starting_quality: given(line, 16, HAS_STARTING_QUALITY),
         quality_target: given(line, 17, HAS_QUALITY_TARGET),
         player_is_specialist: flag(line, SPECIALIST),
@@ -82,29 +75,29 @@ fn options(line: &[u8]) -> CraftOptions {
     }
 }
 
-fn show(rt: &impl Print, c: CraftContext) -> io::Result<()> {
-    say::number(rt, c.player_job_level as u64)?;
-    say::next(rt, c.recipe_job_level)?;
-    say::next(rt, c.base_progress_factor)?;
-    say::next(rt, c.base_quality_factor)?;
-    say::next(rt, c.step_max as u32)?;
-    say::next(rt, c.progress_target)?;
-    say::next(rt, c.starting_quality)?;
-    say::next(rt, c.quality_target)?;
-    say::next_signed(rt, c.durability_max)?;
-    say::next(rt, c.cp_max)?;
-    say::next_bit(rt, c.is_expert)?;
-    let pool = c.action_pool;
-    say::next(rt, pool.0)?;
-    say::next_bit(rt, c.player_is_specialist)?;
-    say::next_bit(rt, c.use_manipulation)?;
-    say::next_bit(rt, c.use_delineation)
+// A context, field by field.
+#[derive(Clone, Copy)]
+struct Row(CraftContext);
+
+impl fmt::Display for Row {
+    fn fmt<W: fmt::Write>(&self, f: &mut fmt::Formatter<W>) -> fmt::Result {
+        let c = self.0;
+        write!(f, "{} {}", c.player_job_level, c.recipe_job_level)?;
+        write!(f, " {} {}", c.base_progress_factor, c.base_quality_factor)?;
+        write!(f, " {} {}", c.step_max, c.progress_target)?;
+        write!(f, " {} {}", c.starting_quality, c.quality_target)?;
+        write!(f, " {} {}", c.durability_max, c.cp_max)?;
+        write!(f, " {} {}", c.is_expert as u8, c.action_pool.0)?;
+        write!(
+            f,
+            " {} {}",
+            c.player_is_specialist as u8, c.use_manipulation as u8
+        )?;
+        write!(f, " {}", c.use_delineation as u8)
+    }
 }
 
-pub fn answer(rt: &impl Print, line: &[u8]) -> io::Result<()> {
+pub fn context(page: &mut Page, line: &[u8]) -> io::Result<()> {
     let built = CraftContext::new(player(line), recipe(line), options(line));
-    match built {
-        Built::Context(c) => show(rt, c),
-        Built::Refused(x) => say::refused(rt, x),
-    }
+    write!(page, "{}", Answer(built.map(Row)))
 }

@@ -1,113 +1,102 @@
-// Kinds 8 to 17: sets of actions.
-use compare_lines::{case, say};
-use crafty::{ActionSet, Asked, Changed, Checked, Highest, Listed, Size};
+// Sets of actions.
+use action_set::bits;
+use compare_lines::case;
+use compare_lines::page::Answer;
+use compare_lines::run::Page;
+use crafty::{ActionSet, Refusal};
 use std::io;
+use std::io::Write;
 
 // What a room holds before: no action.
 const UNTOUCHED: u8 = 255;
 
-fn changed(rt: &impl Print, answer: Changed) -> io::Result<()> {
-    match answer {
-        Changed::Set(set) => say::number(rt, set.0 as u64),
-        Changed::Refused(x) => say::refused(rt, x),
-    }
+fn set_of(line: &[u8]) -> ActionSet {
+    ActionSet(case::number(line, 0))
 }
 
-fn asked(rt: &impl Print, answer: Asked) -> io::Result<()> {
-    match answer {
-        Asked::Is(b) => say::yes(rt, b),
-        Asked::Refused(x) => say::refused(rt, x),
-    }
+fn put_set(page: &mut Page, answer: Result<ActionSet, Refusal>) -> io::Result<()> {
+    write!(page, "{}", Answer(answer.map(|set| set.0)))
 }
 
-fn size(rt: &impl Print, answer: Size) -> io::Result<()> {
-    match answer {
-        Size::Is(k) => say::number(rt, k as u64),
-        Size::Refused(x) => say::refused(rt, x),
-    }
+fn put_asked(page: &mut Page, answer: Result<bool, Refusal>) -> io::Result<()> {
+    write!(
+        page,
+        "{}",
+        Answer(answer.map(|is| if is { "yes" } else { "no" }))
+    )
 }
 
-fn highest(rt: &impl Print, answer: Highest) -> io::Result<()> {
-    match answer {
-        Highest::Is(n) => say::number(rt, n as u64),
-        Highest::Empty => say::text(rt, b"none"),
-        Highest::Refused(x) => say::refused(rt, x),
-    }
+pub fn from_bits(page: &mut Page, line: &[u8]) -> io::Result<()> {
+    put_set(page, ActionSet::from_bits(case::number(line, 0)))
 }
 
-fn from_list(rt: &impl Print, text: &[u8]) -> io::Result<()> {
+pub fn from_list(page: &mut Page, line: &[u8]) -> io::Result<()> {
+    let text = case::text(line);
     let mut list = [0u8; 36];
     case::unmark(text, &mut list);
-    let length = text.len();
-    if length <= 36 {
-        return changed(rt, ActionSet::from_list(&list[..length]));
+    if text.len() <= 36 {
+        return put_set(page, ActionSet::from_list(&list[..text.len()]));
     }
     Ok(())
+}
+
+pub fn contains(page: &mut Page, line: &[u8]) -> io::Result<()> {
+    put_asked(page, set_of(line).contains(case::byte(line, 1)))
+}
+
+pub fn set(page: &mut Page, line: &[u8]) -> io::Result<()> {
+    put_set(page, set_of(line).set(case::byte(line, 1)))
+}
+
+pub fn unset(page: &mut Page, line: &[u8]) -> io::Result<()> {
+    put_set(page, set_of(line).unset(case::byte(line, 1)))
+}
+
+pub fn len(page: &mut Page, line: &[u8]) -> io::Result<()> {
+    write!(page, "{}", Answer(set_of(line).len()))
+}
+
+pub fn is_empty(page: &mut Page, line: &[u8]) -> io::Result<()> {
+    put_asked(page, set_of(line).is_empty())
+}
+
+pub fn highest(page: &mut Page, line: &[u8]) -> io::Result<()> {
+    match set_of(line).highest() {
+        Ok(None) => write!(page, "none"),
+        answer => write!(page, "{}", Answer(answer.map(|top| top.unwrap_or(0)))),
+    }
 }
 
 fn shown(place: u8) -> u8 {
-    if place == UNTOUCHED {
-        return b'.';
+    match place {
+        UNTOUCHED => b'.',
+        n => 64 + n % 64,
     }
-    64 + place % 64
 }
 
-fn show(rt: &impl Print, room: &[u8]) -> io::Result<()> {
-    let mut k = 0;
-    while k < room.len() {
-        say::text(rt, &[shown(room[k])])?;
-        k += 1;
-    }
-    Ok(())
-}
-
-fn in_room(rt: &impl Print, set: ActionSet, room: &mut [u8]) -> io::Result<()> {
-    let answer = set.members(room);
-    match answer {
-        Listed::Count(k) => say::number(rt, k as u64)?,
-        Listed::Refused(x) => say::refused(rt, x)?,
-    }
-    say::text(rt, b" ")?;
-    show(rt, room)
-}
-
-fn members(rt: &impl Print, set: ActionSet, places: usize) -> io::Result<()> {
+// How many members, and the whole room after the call.
+pub fn members(page: &mut Page, line: &[u8]) -> io::Result<()> {
     let mut room = [UNTOUCHED; 40];
+    let places = case::number(line, 1) as usize;
     if places <= 40 {
-        return in_room(rt, set, &mut room[..places]);
+        let lent = &mut room[..places];
+        write!(page, "{} ", Answer(set_of(line).members(lent)))?;
+        for place in lent {
+            page.write_all(&[shown(*place)])?;
+        }
     }
     Ok(())
 }
 
-fn kept(rt: &impl Print, set: ActionSet, passing: ActionSet) -> io::Result<()> {
-    let inside = set.check();
-    if let Checked::Refused(x) = inside {
-        return say::refused(rt, x);
-    }
-    let other = passing.check();
-    if let Checked::Refused(x) = other {
-        return say::refused(rt, x);
-    }
-    let bits = set.0;
-    let mask = passing.0;
-    say::number(rt, action_set::bits::keep(bits, mask) as u64)
+// The members of a set that a second one has too.
+#[tactic(auto, unfolding(refusal::specs::Judge::judged))]
+fn kept(set: ActionSet, passing: ActionSet) -> Result<u32, Refusal> {
+    set.check()?;
+    passing.check()?;
+    Ok(bits::keep(set.0, |n| bits::holds(passing.0, n)))
 }
 
-pub fn answer(rt: &impl Print, kind: u64, line: &[u8]) -> io::Result<()> {
-    let first = case::number(line, 0);
-    let second = case::number(line, 1);
-    let set = ActionSet(first);
-    let n = case::byte(line, 1);
-    match kind {
-        8 => changed(rt, ActionSet::from_bits(first)),
-        9 => from_list(rt, case::text(line)),
-        10 => asked(rt, set.contains(n)),
-        11 => changed(rt, set.set(n)),
-        12 => changed(rt, set.unset(n)),
-        13 => size(rt, set.len()),
-        14 => asked(rt, set.is_empty()),
-        15 => highest(rt, set.highest()),
-        16 => members(rt, set, second as usize),
-        _ => kept(rt, set, ActionSet(second)),
-    }
+pub fn keep(page: &mut Page, line: &[u8]) -> io::Result<()> {
+    let passing = ActionSet(case::number(line, 1));
+    write!(page, "{}", Answer(kept(set_of(line), passing)))
 }

@@ -2,7 +2,9 @@
 
 #![tactic(auto)]
 
-use compare_lines::{block, case, say};
+use compare_lines::case;
+use compare_lines::kind::Kind;
+use compare_lines::run::{Page, run};
 use std::io;
 
 mod answer;
@@ -13,52 +15,15 @@ mod state;
 
 const WIDTH: usize = 512;
 
-// A whole number of lines.
-const BLOCK: usize = 4096;
-
-// More than the longest answer.
-const ROOM: usize = 8192;
-
-fn put_answer(room: &mut [u8], line: &[u8]) -> usize {
+// What is no other kind's is read as a state.
+fn answer_line(page: &mut Page, line: &[u8]) -> io::Result<()> {
     match case::kind(line) {
-        23 => replays::answer(room, line),
-        24 => displays::answer(room, line),
-        _ => answer::answer(room, line),
+        Ok(Kind::Replay) => replays::answer(page, line),
+        Ok(Kind::Display) => displays::answer(page, line),
+        _ => answer::answer(page, line),
     }
 }
 
-fn write_answer(rt: &impl Print, line: &[u8]) -> io::Result<()> {
-    let mut room = [0u8; 8192];
-    let end = put_answer(&mut room, line);
-    if end <= ROOM {
-        return say::text(rt, &room[..end]);
-    }
-    Ok(())
-}
-
-fn answer_all(rt: &impl Print, lines: &[u8]) -> io::Result<()> {
-    let mut left = lines.len() / WIDTH;
-    let mut at = 0;
-    while left > 0 {
-        write_answer(rt, &lines[at..at + WIDTH])?;
-        at += WIDTH;
-        left -= 1;
-    }
-    Ok(())
-}
-
-// Block after block, up to a hundred million lines.
 fn main(rt: HostRuntime) -> io::Result<()> {
-    let mut input = rt.stdin();
-    let mut bytes = [0u8; BLOCK];
-    let mut blocks: u32 = 12500000;
-    while blocks > 0 {
-        let got = block::fill(&mut input, &mut bytes)?;
-        answer_all(&rt, &bytes[..got])?;
-        if got < BLOCK {
-            return Ok(());
-        }
-        blocks -= 1;
-    }
-    Ok(())
+    run::<WIDTH, _>(&rt, answer_line)
 }

@@ -1,99 +1,67 @@
-// A state in a room, its seventeen fields in order, and a result.
+// A state in words, its seventeen fields in order, and a result.
 ghost use Rattle.std.specs.Prelude.{◌≡◌};
 ghost use Rattle.action.specs.Price.{combo_number};
 ghost use Rattle.craft_state.specs.Perfection.{perfection_number};
 
-use compare_lines::page;
-use crafty::{Buffs, Combo, CraftResult, CraftState, Last, Perfection};
+use compare_lines::page::{Bits, OrDash};
+use crafty::{Combo, CraftResult, CraftState, Perfection};
+use std::fmt;
 
-fn combo(c: Combo) -> u32
+fn combo(c: Option<Combo>) -> u32
     ensures { result ≡ combo_number c }
 {
-    match c {
-        Combo::Nothing => 0,
-        Combo::BasicTouch => 1,
-        Combo::StandardTouch => 2,
-        Combo::RefinedTouch => 3,
-        Combo::Observe => 4,
-    }
+    c.map_or(0, |combo| combo as u32 + 1)
 }
 
 fn perfection(p: Perfection) -> u32
     ensures { result ≡ perfection_number p }
 {
-    match p {
-        Perfection::Unused => 0,
-        Perfection::Active => 1,
-        Perfection::Spent => 2,
+    p as u32
+}
+
+// A state, field by field.
+#[derive(Clone, Copy)]
+pub struct Row(pub CraftState);
+
+impl fmt::Display for Row {
+    fn fmt<W: fmt::Write>(&self, f: &mut fmt::Formatter<W>) -> fmt::Result {
+        let s = self.0;
+        let b = s.buffs;
+        write!(
+            f,
+            "{} {} {} {} {}",
+            s.step, s.progress, s.quality, s.durability, s.cp
+        )?;
+        write!(f, " {}", combo(s.previous_combo_action))?;
+        write!(f, " {}", s.quick_innovation_available as u8)?;
+        write!(f, " {}", perfection(s.trained_perfection_active))?;
+        write!(f, " {} {} {}", b.inner_quiet, b.waste_not, b.waste_not_ii)?;
+        write!(
+            f,
+            " {} {} {}",
+            b.manipulation, b.great_strides, b.innovation
+        )?;
+        write!(
+            f,
+            " {} {} {}",
+            b.veneration,
+            b.muscle_memory,
+            OrDash(s.action)
+        )
     }
 }
 
-fn flag(b: bool) -> u32 {
-    if b { 1 } else { 0 }
-}
+#[derive(Clone, Copy)]
+pub struct Verdict(pub CraftResult);
 
-fn put_buffs(room: &mut [u8], at: usize, b: Buffs) -> usize {
-    page::all(
-        room,
-        at,
-        &[
-            b.inner_quiet as u32,
-            b.waste_not as u32,
-            b.waste_not_ii as u32,
-            b.manipulation as u32,
-            b.great_strides as u32,
-            b.innovation as u32,
-            b.veneration as u32,
-            b.muscle_memory as u32,
-        ],
-    )
-}
-
-fn put_last(room: &mut [u8], at: usize, last: Last) -> usize {
-    match last {
-        Last::Was(n) => page::next(room, at, n as u32),
-        Last::Nothing => page::bytes(room, at, b" -"),
-    }
-}
-
-// Combo, quick innovation and trained perfection.
-fn put_ready(room: &mut [u8], at: usize, s: CraftState) -> usize {
-    let on = s.previous_combo_action;
-    let trained = s.trained_perfection_active;
-    page::all(
-        room,
-        at,
-        &[
-            combo(on),
-            flag(s.quick_innovation_available),
-            perfection(trained),
-        ],
-    )
-}
-
-pub fn put_state(room: &mut [u8], at: usize, s: CraftState) -> usize {
-    let step = page::number(room, at, s.step as u32);
-    let quality = page::all(room, step, &[s.progress, s.quality]);
-    let durability = page::next_signed(room, quality, s.durability);
-    let cp = page::next(room, durability, s.cp);
-    let ready = put_ready(room, cp, s);
-    let buffs = s.buffs;
-    let timers = put_buffs(room, ready, buffs);
-    let last = s.action;
-    put_last(room, timers, last)
-}
-
-fn put_finished(room: &mut [u8], at: usize, score: f32) -> usize {
-    let word = page::bytes(room, at, b"finished ");
-    page::float(room, word, score)
-}
-
-pub fn put_result(room: &mut [u8], at: usize, res: CraftResult) -> usize {
-    match res {
-        CraftResult::Finished(score) => put_finished(room, at, score),
-        CraftResult::DurabilityFailure => page::bytes(room, at, b"durability"),
-        CraftResult::MaxStepsFailure => page::bytes(room, at, b"steps"),
-        CraftResult::InvalidActionFailure => page::bytes(room, at, b"invalid"),
-        CraftResult::Continuing => page::bytes(room, at, b"continuing"),
+impl fmt::Display for Verdict {
+    fn fmt<W: fmt::Write>(&self, f: &mut fmt::Formatter<W>) -> fmt::Result {
+        match self.0 {
+            CraftResult::Finished(score) => write!(f, "finished {}", Bits(score)),
+            CraftResult::DurabilityFailure => write!(f, "durability"),
+            CraftResult::MaxStepsFailure => write!(f, "steps"),
+            CraftResult::InvalidActionFailure => write!(f, "invalid"),
+            CraftResult::Continuing => write!(f, "continuing"),
+        }
     }
 }

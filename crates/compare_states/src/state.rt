@@ -1,21 +1,14 @@
 // The context and the state of a line, field by field.
-ghost use Rattle.std.specs.Prelude.{◌<◌};
-
 use compare_lines::case;
-use crafty::{ActionSet, Buffs, CraftContext, CraftState, Last, Perfection};
+use crafty::{ActionSet, Buffs, CraftContext, CraftState, Perfection};
 
-pub fn flag(line: &[u8], i: usize) -> bool
-    requires { i < 40 }
-{
+pub fn flag(line: &[u8], i: u8) -> bool {
     case::number(line, i) == 1
 }
 
-// A number as the i8 that has its byte.
-fn signed(byte: u8) -> i8 {
-    if byte < 128 {
-        return byte as i8;
-    }
-    -1 - (255 - byte) as i8
+// Number i as the i8 that has its byte.
+fn signed(line: &[u8], i: u8) -> i8 {
+    i8::from_le_bytes([case::byte(line, i)])
 }
 
 fn perfection(number: u32) -> Perfection {
@@ -24,14 +17,6 @@ fn perfection(number: u32) -> Perfection {
         2 => Perfection::Spent,
         _ => Perfection::Unused,
     }
-}
-
-// 256 stands for no action.
-fn last(number: u32) -> Last {
-    if number < 256 {
-        return Last::Was(number as u8);
-    }
-    Last::Nothing
 }
 
 pub fn context(line: &[u8]) -> CraftContext {
@@ -44,7 +29,7 @@ pub fn context(line: &[u8]) -> CraftContext {
         progress_target: case::number(line, 5),
         starting_quality: case::number(line, 6),
         quality_target: case::number(line, 7),
-        durability_max: signed(case::byte(line, 8)),
+        durability_max: signed(line, 8),
         cp_max: case::number(line, 9),
         is_expert: flag(line, 10),
         action_pool: ActionSet(case::number(line, 11)),
@@ -72,12 +57,13 @@ pub fn state(line: &[u8]) -> CraftState {
         step: case::byte(line, 15),
         progress: case::number(line, 16),
         quality: case::number(line, 17),
-        durability: signed(case::byte(line, 18)),
+        durability: signed(line, 18),
         cp: case::number(line, 19),
         previous_combo_action: case::combo(line, 20),
         quick_innovation_available: flag(line, 21),
         trained_perfection_active: perfection(case::number(line, 22)),
         buffs: buffs(line),
-        action: last(case::number(line, 31)),
+        // 256 stands for no action.
+        action: u8::try_from(case::number(line, 31)).ok(),
     }
 }

@@ -1,22 +1,14 @@
--- What the replay program (document 01, "The replay program") takes for the whole of standard input. By POSIX a read answers -1 where it
--- failed, 0 at the input's end, or how many bytes it put into the room.
+-- What the replay program (document 01, "The replay program") takes for the whole of standard input: what was read, to the input's end or past the most
+-- that it may have. Where a read failed there is no whole.
 -- Assumes nothing.
-use Rattle.std.specs.Prelude.{cond, ℕ, ◌+◌, ◌≤◌, eqb, ℤ, pos, negsuc}
+use Rattle.std.specs.Prelude.{ℕ, ◌+◌, ◌≤◌, ◌<◌, List, Option, Result, IfOk}
+use Rattle.std.specs.Io.KnownBytes.{IsAtEnd}
 use Rattle.refusal.specs.Judge.{size_most}
-use Rattle.replay.specs.declared.input.Reading.{Reading}
-use Rattle.replay.specs.declared.input.Reading.TheVariants.{Failed, Whole, Open}
 
 -- in bytes: one more than an input may have, so that one that fills it is refused by 13
 abbrev pub room : ℕ
 room = size_most + 1
 
--- where the reading stands after a read that began at a place
-abbrev pub after_read : ℕ → ℤ → Reading
-after_read at (negsuc k) = Failed
-after_read at (pos n) = cond (eqb n 0) (Whole at) (Open (at + n))
-
--- failed, or whole and within what was lent
-abbrev pub Ended : Reading → ℕ → Type 0
-Ended Failed lent = Unit {0}
-Ended (Whole n) lent = n ≤ lent
-Ended (Open n) lent = ⊥
+-- failed, or whole: within what was lent, and with nothing left where it did not fill that
+abbrev pub Ended : {E : Type 0} → Result ℕ E → Option (List ℕ) → ℕ → Type 0
+Ended read left lent = IfOk read (λ n. (n ≤ lent) × (n < lent → IsAtEnd left))

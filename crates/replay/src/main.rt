@@ -4,8 +4,7 @@
 
 mod input;
 
-use crafty::Written;
-use input::{ROOM, Reading};
+use input::ROOM;
 use std::io;
 use transcript::TRANSCRIPT_MOST;
 
@@ -16,8 +15,7 @@ fn complain(rt: &impl Eprint) -> io::Result<()> {
 // The room is always enough (`printed_whole`).
 fn print(rt: &impl Print, input: &[u8]) -> io::Result<()> {
     let mut out = [0u8; TRANSCRIPT_MOST];
-    let written = crafty::replay_output(input, &mut out);
-    let Written::Length(k) = written else {
+    let Ok(k) = crafty::replay_output(input, &mut out) else {
         return Ok(());
     };
     rt.write_all(&out[..k])
@@ -26,9 +24,7 @@ fn print(rt: &impl Print, input: &[u8]) -> io::Result<()> {
 // Only a whole input is judged, so an empty standard output says that nothing was.
 fn main(rt: HostRuntime) -> io::Result<()> {
     let mut input = [0u8; ROOM];
-    let mut from = rt.reader();
-    let reading = input::read(&mut from, &mut input);
-    let Reading::Whole(length) = reading else {
+    let Ok(length) = input::read(&mut rt.reader(), &mut input) else {
         return complain(&rt);
     };
     print(&rt, &input[..length])

@@ -1,10 +1,7 @@
--- `compare_lines::case::number` is safe and ends.
+-- `case::number` is safe: so many digits make a number below that power of ten.
 -- Assumes nothing.
-use Prim.Native.Nat.{◌≤◌, ◌-◌}
+use Rattle.std.proofs.Common.{◌<◌, ◌^◌}
 use Rattle.compare_lines.proofs.case.number.Given as goal
 
 abbrev pub invariant-loop-k : goal.invariant-loop-k
-invariant-loop-k l = (l.k ≤ 10) × (l.start ≤ 432)
-
-abbrev pub decreases-loop-k : goal.decreases-loop-k
-decreases-loop-k l = 10 - l.k
+invariant-loop-k l = l.value < 10 ^ l.k
