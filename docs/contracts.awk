@@ -90,7 +90,7 @@ function contract_form(text,   clause, at, start) {
     at = index(text, clause)
     start = substr(text, 1, at - 1)
     text = substr(text, at + length(clause))
-    if (!at || start !~ /^[a-z_]+\([^()]*\) -> [A-Za-z]+$/ || !sub(/ [}] [{] *$/, "", text)) return ""
+    if (!at || start !~ /^[a-z_]+\([^()]*\) -> [A-Za-z0-9_<>(), ]+$/ || !sub(/ [}] [{] *$/, "", text)) return ""
     read_parameters(start)
     return stated_form(as_words(text))
 }
