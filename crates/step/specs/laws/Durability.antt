@@ -3,8 +3,7 @@
 use Rattle.std.specs.Prelude.{◌≡◌, refl, Bool, true, false, cond, ◌&&◌, ℕ, ◌+◌, ◌≤◌, ltb, ℤ, pos, ◌+ℤ◌, ◌-ℤ◌}
 use Rattle.std.proofs.Common.{arith, SFits}
 use Rattle.std.specs.Int.Signed.{le_z, lt_z}
-use Rattle.std.specs.Int.{w8, int_min}
-use borrow.Author.Rules.{rules}
+use Rattle.std.specs.Int.{w8}
 use Rattle.laws.specs.laws.Raise.{raise, raise_add, raise_sub, mag_of, le_raise, gt_raise, fits8}
 use Rattle.action.specs.Limits.{wear_most}
 use Rattle.craft_state.specs.Inside.{DurabilityIn}
@@ -60,7 +59,3 @@ refreshed_in d manipulation most p = go (ltb 0 manipulation && lt_z (pos 0) d)
     go : (t : Bool) → DurabilityIn (cond t (mended_of d manipulation_mends most) d) most
     go true = mended_in d manipulation_mends most p (omega arith)
     go false = p
-
--- as the least of two
-pub mended_least : (d : ℤ) (by : ℕ) (most : ℤ) → int_min (d +ℤ pos by) most ≡ mended_of d by most
-mended_least d by most = search rules

@@ -1,10 +1,15 @@
--- `step::durability::Durability::mended_by` meets its contract.
+-- `step::durability::Durability::mended_by` meets its contract: the bytes that it reads are the numbers, and its answer the least of two.
 -- Assumes nothing.
-use Rattle.std.proofs.Common.{◌≡◌, ◌∙◌, rules, pos, w8, to_z, of_z}
+use Rattle.std.proofs.Common.{◌≡◌, ◌∙◌, rules, ℕ, ℤ, pos, ◌+ℤ◌, w8, to_z, of_z}
+use Rattle.std.specs.Int.{int_min}
 use Rattle.craft_state.specs.laws.Inside.{durability_read}
-use Rattle.step.specs.laws.Durability.{mend_fits, mended_least}
+use Rattle.step.specs.Durability.{mended_of}
+use Rattle.step.specs.laws.Durability.{mend_fits}
 use mir.ValLaws.{to_z-of_z}
 use Rattle.step.proofs.durability.Durability.mended_by.Goals as goal
+
+mended_least : (d : ℤ) (by : ℕ) (most : ℤ) → int_min (d +ℤ pos by) most ≡ mended_of d by most
+mended_least d by most = search rules
 
 pub returns : goal.returns
 returns c =
