@@ -1,5 +1,5 @@
 // Sets of actions.
-use action_set::bits;
+use action_set::bits::{self, Bits};
 use compare_lines::case;
 use compare_lines::page::Answer;
 use compare_lines::run::Page;
@@ -93,7 +93,8 @@ pub fn members(page: &mut Page, line: &[u8]) -> io::Result<()> {
 fn kept(set: ActionSet, passing: ActionSet) -> Result<u32, Refusal> {
     set.check()?;
     passing.check()?;
-    Ok(bits::keep(set.0, |n| bits::holds(passing.0, n)))
+    let kept = Bits { bits: set.0 }.keep(|n| bits::holds(passing.0, n));
+    Ok(kept.bits)
 }
 
 pub fn keep(page: &mut Page, line: &[u8]) -> io::Result<()> {
