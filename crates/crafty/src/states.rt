@@ -8,6 +8,7 @@ use craft_state::{Craft, CraftState};
 use moves::Mode;
 use refusal::Refusal;
 use score::CraftResult;
+use step::Candidate;
 
 pub fn moves(context: CraftContext, state: CraftState, mode: Mode) -> Result<ActionSet, Refusal>
     ensures { HasMoves context state mode result }
@@ -30,8 +31,9 @@ pub fn step(
     action::check_action(n)?;
     let craft = Craft { context, state };
     let row = action::attributes_of(n);
-    if moves::is_legal(craft, mode, n, row) {
-        return Ok(step::execute(context, state, n, row));
+    let candidate = Candidate { n, row };
+    if moves::is_legal(craft, mode, candidate) {
+        return Ok(step::execute(context, state, candidate));
     }
     Err(Refusal::IllegalAction)
 }

@@ -1,7 +1,6 @@
 // The test of one candidate: price and quality in either mode, then the rules of the mode.
 ghost use Rattle.std.specs.Prelude.{◌≡◌, ◌<◌};
 ghost use Rattle.action.specs.Known.{actions};
-ghost use Rattle.action.specs.Bounds.{RowBounds};
 ghost use Rattle.action.specs.Price.{affordable};
 ghost use Rattle.moves.specs.Rules.{may_improve};
 ghost use Rattle.moves.specs.Moves.{allowed_of, allows_of};
@@ -9,9 +8,9 @@ ghost use Rattle.moves.specs.Moves.{allowed_of, allows_of};
 use super::mode::Mode;
 use super::own::own_rule;
 use super::strict::strictly;
-use action::Attributes;
 use craft_context::CraftContext;
 use craft_state::{Craft, CraftState};
+use step::Candidate;
 
 // The full price: the candidate's combo does not count, as in the Rust.
 pub fn can_pay(points: u32, price: Option<u32>) -> bool
@@ -35,19 +34,18 @@ fn may_improve(context: CraftContext, state: CraftState, attribute: Option<u32>)
 
 // One candidate by its row.
 #[tactic(auto, unfolding(crate::specs::Moves::allowed_of))]
-pub fn allowed(craft: Craft, mode: Mode, n: u8, row: Attributes) -> bool
-    requires { RowBounds n row }
-    ensures { result ≡ allowed_of craft.context craft.state mode n row }
+pub fn allowed(craft: Craft, mode: Mode, candidate: Candidate) -> bool
+    ensures { result ≡ allowed_of craft.context craft.state mode candidate.n candidate.row }
 {
-    let cost = row.cp_cost;
-    let quality = row.quality_efficiency;
+    let cost = candidate.row.cp_cost;
+    let quality = candidate.row.quality_efficiency;
     if !(can_pay(craft.state.cp, cost) & may_improve(craft.context, craft.state, quality)) {
         return false;
     }
     if mode.strict {
-        strictly(craft, n, row)
+        strictly(craft, candidate)
     } else {
-        own_rule(craft.context, craft.state, n, row)
+        own_rule(craft.context, craft.state, candidate)
     }
 }
 
@@ -57,5 +55,6 @@ pub fn allows(craft: Craft, mode: Mode, n: u8) -> bool
     requires { n < actions }
     ensures { result ≡ allows_of craft.context craft.state mode n }
 {
-    allowed(craft, mode, n, action::attributes_of(n))
+    let row = action::attributes_of(n);
+    allowed(craft, mode, Candidate { n, row })
 }

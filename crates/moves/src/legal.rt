@@ -1,17 +1,15 @@
 // The legal moves of a state, and whether one candidate is among them.
-ghost use Rattle.std.specs.Prelude.{◌≡◌, ◌<◌};
-ghost use Rattle.action.specs.Bounds.{RowBounds};
-ghost use Rattle.action.specs.Known.{actions};
+ghost use Rattle.std.specs.Prelude.{◌≡◌};
 ghost use Rattle.action_set.specs.Sets.{keep_of};
 ghost use Rattle.moves.specs.Moves.{ended, allows_of, moves_of};
 ghost use Rattle.moves.specs.inner.Legal.{passed_of, legal_of};
 
 use super::candidate::{allowed, allows};
 use super::mode::Mode;
-use action::Attributes;
 use action_set::bits::{self, Bits};
 use craft_context::CraftContext;
 use craft_state::{Craft, CraftState};
+use step::Candidate;
 
 // Progress is at its target, no step is left, or no durability.
 pub fn has_ended(context: CraftContext, state: CraftState) -> bool
@@ -30,19 +28,17 @@ fn keep_allowed(craft: Craft, mode: Mode, set: Bits) -> Bits
 }
 
 // One candidate of a state that has not ended, by its row: the pool has it, and it passes the test.
-pub fn passes(craft: Craft, mode: Mode, n: u8, row: Attributes) -> bool
-    requires { (n < actions) × RowBounds n row }
-    ensures { result ≡ passed_of craft.context craft.state mode n row }
+pub fn passes(craft: Craft, mode: Mode, candidate: Candidate) -> bool
+    ensures { result ≡ passed_of craft.context craft.state mode candidate.n candidate.row }
 {
-    bits::holds(craft.context.action_pool.0, n) && allowed(craft, mode, n, row)
+    bits::holds(craft.context.action_pool.0, candidate.n) && allowed(craft, mode, candidate)
 }
 
 // One candidate of any state, by its row: by `has_moves` the same as looking it up in the moves.
-pub fn is_legal(craft: Craft, mode: Mode, n: u8, row: Attributes) -> bool
-    requires { (n < actions) × RowBounds n row }
-    ensures { result ≡ legal_of craft.context craft.state mode n row }
+pub fn is_legal(craft: Craft, mode: Mode, candidate: Candidate) -> bool
+    ensures { result ≡ legal_of craft.context craft.state mode candidate.n candidate.row }
 {
-    !has_ended(craft.context, craft.state) && passes(craft, mode, n, row)
+    !has_ended(craft.context, craft.state) && passes(craft, mode, candidate)
 }
 
 // The walk over the pool.

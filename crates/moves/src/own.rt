@@ -1,14 +1,14 @@
 // Each action's own rule, and what strict mode asks beyond it.
 ghost use Rattle.std.specs.Prelude.{◌≡◌};
 ghost use Rattle.action.specs.Amount.{AtMost};
-ghost use Rattle.action.specs.Bounds.{RowBounds};
 ghost use Rattle.action.specs.Limits.{wear_most};
 ghost use Rattle.craft_state.specs.Inside.{DurabilityIn};
 ghost use Rattle.moves.specs.Rules.{is_unused, no_waste_not, on_observe, withstands, own_rule, strict_rule};
 
-use action::{Attributes, Combo};
+use action::Combo;
 use craft_context::CraftContext;
 use craft_state::{Buffs, CraftState, Perfection};
+use step::Candidate;
 
 // Points for Observe, and for the AdvancedTouch after it.
 pub const OBSERVE_AND_TOUCH: u32 = 25;
@@ -52,14 +52,13 @@ pub fn can_withstand(state: CraftState, attribute: Option<u32>) -> bool
 }
 
 #[tactic(auto, unfolding(crate::specs::Rules::own_rule))]
-pub fn own_rule(context: CraftContext, state: CraftState, n: u8, row: Attributes) -> bool
-    requires { RowBounds n row }
-    ensures { result ≡ own_rule context state n row }
+pub fn own_rule(context: CraftContext, state: CraftState, candidate: Candidate) -> bool
+    ensures { result ≡ own_rule context state candidate.n candidate.row }
 {
     let combo = state.previous_combo_action;
     let perfection = state.trained_perfection_active;
-    let durability = row.durability_cost;
-    match n {
+    let durability = candidate.row.durability_cost;
+    match candidate.n {
         action::MUSCLE_MEMORY | action::REFLECT => state.step == CraftState::STEP_LEAST,
         action::TRAINED_EYE => (state.step == CraftState::STEP_LEAST) & !context.is_expert,
         action::BYREGOTS_BLESSING => state.buffs.inner_quiet > 0,

@@ -1,15 +1,14 @@
 // The rules of strict mode, in the order of the source.
 ghost use Rattle.std.specs.Prelude.{◌≡◌};
-ghost use Rattle.action.specs.Bounds.{RowBounds};
 ghost use Rattle.step.specs.inner.Asked.{Progressing};
 ghost use Rattle.moves.specs.Rules.{eye_alone, outside_memory, outside_veneration, after_observe, may_progress};
 ghost use Rattle.moves.specs.Moves.{strictly_of};
 
 use super::own::{on_observe, own_rule, strict_rule};
-use action::Attributes;
 use action_set::bits;
 use craft_context::CraftContext;
 use craft_state::{Craft, CraftState};
+use step::Candidate;
 
 // A finish asks for this part of the quality.
 pub const QUALITY_PART: u32 = 5;
@@ -84,10 +83,10 @@ fn may_progress(
 }
 
 #[tactic(auto, unfolding(crate::specs::Moves::strictly_of))]
-pub fn strictly(craft: Craft, n: u8, row: Attributes) -> bool
-    requires { RowBounds n row }
-    ensures { result ≡ strictly_of craft.context craft.state n row }
+pub fn strictly(craft: Craft, candidate: Candidate) -> bool
+    ensures { result ≡ strictly_of craft.context craft.state candidate.n candidate.row }
 {
+    let Candidate { n, row } = candidate;
     if is_eye_alone(craft.context, craft.state) {
         return n == action::TRAINED_EYE;
     }
@@ -97,6 +96,6 @@ pub fn strictly(craft: Craft, n: u8, row: Attributes) -> bool
         & is_outside_veneration(craft.state, progress, quality)
         & may_follow(craft.state, n)
         & may_progress(craft.context, craft.state, progress, quality)
-        & own_rule(craft.context, craft.state, n, row)
+        & own_rule(craft.context, craft.state, candidate)
         & strict_rule(craft.context, craft.state, n)
 }

@@ -11,6 +11,7 @@ use craft_state::{Craft, CraftState};
 use moves::Mode;
 use refusal::Refusal;
 use score::CraftResult;
+use step::Candidate;
 
 // The result, and the place after the last draw that was used. The first draw is of a set of the state's moves, the others of the strict moves of the
 // states that follow. With nothing to draw from it has ended.
@@ -30,7 +31,8 @@ pub fn roll_out(
     // No `for` over the draws: it ends where no move is left, and after the last draw that is still to be asked.
     while moves.bits != 0 {
         let n = draw(moves, draws, at)?;
-        state = step::execute(context, state, n, action::attributes_of(n));
+        let row = action::attributes_of(n);
+        state = step::execute(context, state, Candidate { n, row });
         moves = moves::moves_at_once(Craft { context, state }, Mode::STRICT);
         at += 1;
     }

@@ -16,6 +16,7 @@ use super::options::{SearchOptions, ln_at};
 use craft_context::CraftContext;
 use craft_state::{CraftState, fresh};
 use rates::{Best, Weights};
+use step::Candidate;
 use tree::{Node, is_child, node_at};
 
 // A record, and the state there.
@@ -107,7 +108,8 @@ pub fn stepped(context: CraftContext, state: CraftState, n: u8) -> CraftState
     requires { Playable context state n (attributes_of n) }
     ensures { result ≡ execute_of context state n }
 {
-    step::execute(context, state, n, action::attributes_of(n))
+    let row = action::attributes_of(n);
+    step::execute(context, state, Candidate { n, row })
 }
 
 // The state is carried along, so that none is stored.

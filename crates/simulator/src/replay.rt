@@ -1,7 +1,6 @@
 // Replay in a mode: action after action, each tested where it stands.
 ghost use Rattle.std.specs.Prelude.{◌≡◌, true, cond, ◌≤◌, length};
 ghost use Rattle.action.specs.Known.{known_front};
-ghost use Rattle.action.specs.Bounds.{RowBounds};
 ghost use Rattle.craft_context.specs.Limits.{ContextIn};
 ghost use Rattle.step.specs.inner.Asked.{Playable};
 ghost use Rattle.step.specs.Step.{executed_of};
@@ -9,12 +8,12 @@ ghost use Rattle.score.specs.Result.{ScoreIsNumber};
 ghost use Rattle.simulator.specs.Replay.{replay_of};
 ghost use Rattle.simulator.specs.inner.Settled.{settled_of};
 
-use action::Attributes;
 use action_set::ActionSet;
 use craft_context::CraftContext;
 use craft_state::{Craft, CraftState, fresh};
 use moves::Mode;
 use score::CraftResult;
+use step::Candidate;
 
 // The state where a replay stopped, its moves, its result, and how many actions were executed.
 #[derive(Clone, Copy, Debug, PartialEq)]
@@ -26,12 +25,12 @@ pub struct Replay {
 }
 
 // The state after an action that passed the test; what did not pass would leave it as it was.
-fn play(craft: Craft, n: u8, row: Attributes, legal: bool) -> CraftState
-    requires { (legal ≡ true → Playable craft.context craft.state n row) × RowBounds n row }
-    ensures { result ≡ cond legal (executed_of craft.context craft.state n row) craft.state }
+fn play(craft: Craft, candidate: Candidate, legal: bool) -> CraftState
+    requires { legal ≡ true → Playable craft.context craft.state candidate.n candidate.row }
+    ensures { result ≡ cond legal (executed_of craft.context craft.state candidate.n candidate.row) craft.state }
 {
     if legal {
-        return step::execute(craft.context, craft.state, n, row);
+        return step::execute(craft.context, craft.state, candidate);
     }
     craft.state
 }
@@ -64,11 +63,12 @@ pub fn execute_actions(context: CraftContext, mode: Mode, list: &[u8]) -> Replay
         }
         let n = list[i];
         let row = action::attributes_of(n);
-        let legal = moves::passes(craft, mode, n, row);
+        let candidate = Candidate { n, row };
+        let legal = moves::passes(craft, mode, candidate);
         if !legal {
             break CraftResult::InvalidActionFailure;
         }
-        state = play(craft, n, row, legal);
+        state = play(craft, candidate, legal);
         i += 1;
     };
     let moves = moves::moves_at_once(Craft { context, state }, mode);

@@ -1,3 +1,4 @@
 pub mod Durability
 pub mod Parts
 pub mod Step
+pub mod Candidate

@@ -3,6 +3,7 @@
 
 #![tactic(auto)]
 
+mod candidate;
 mod combos;
 mod durability;
 mod effects;
@@ -12,4 +13,5 @@ mod whole;
 
 pub use durability::wears;
 pub use quality::on_basic_touch;
+pub use candidate::Candidate;
 pub use whole::execute;

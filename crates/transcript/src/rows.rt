@@ -6,6 +6,7 @@ ghost use Rattle.transcript.specs.inner.Played.{Played};
 
 use craft_context::CraftContext;
 use craft_state::{Craft, CraftState};
+use step::Candidate;
 
 // A state's line, and byte 10.
 pub fn put_row(context: CraftContext, state: CraftState, out: &mut [u8], at: usize) -> usize
@@ -24,8 +25,9 @@ pub fn put_rows(start: Craft, part: &[u8], out: &mut [u8], at: usize) -> usize
     let context = start.context;
     let mut state = start.state;
     let mut end = at;
-    for n in part {
-        state = step::execute(context, state, *n, action::attributes_of(*n));
+    for &n in part {
+        let row = action::attributes_of(n);
+        state = step::execute(context, state, Candidate { n, row });
         end = put_row(context, state, out, end);
     }
     end

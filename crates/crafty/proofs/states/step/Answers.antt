@@ -49,16 +49,16 @@ tested c e =
 pub invariant_of-craft : goal.invariant_of-craft
 invariant_of-craft c = record { inside = inside (goal.at.invariant_of-craft c).In_ok-check }
 
-pub is_legal-requires : goal.is_legal-requires
-is_legal-requires c =
-    let n = known (goal.at.is_legal-requires c).In_ok-check_action in
-    (n, rw c.attributes_of-row.ensures (rows_bounded _ n))
+pub invariant_of-candidate : goal.invariant_of-candidate
+invariant_of-candidate c =
+    let n = known (goal.at.invariant_of-candidate c).In_ok-check_action in
+    record { bounds = rw c.attributes_of-row.ensures (n, rows_bounded _ n) }
 
 pub execute-requires : goal.execute-requires
 execute-requires c =
     let n = known (goal.at.execute-requires c).In_ok-check_action in
     rw c.attributes_of-row.ensures
-    (legal_playable attributes_of rows_bounded _ _ _ _ (inside (goal.at.execute-requires c).In_ok-check) n (tested (goal.at.execute-requires c).After-is_legal c.if-is_legal.true), rows_bounded _ n)
+    (legal_playable attributes_of rows_bounded _ _ _ _ (inside (goal.at.execute-requires c).In_ok-check) n (tested (goal.at.execute-requires c).After-is_legal c.if-is_legal.true))
 
 pub returns-then-is_legal : goal.returns-then-is_legal
 returns-then-is_legal c =

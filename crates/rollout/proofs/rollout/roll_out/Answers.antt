@@ -25,7 +25,7 @@ use Rattle.rollout.specs.inner.Movable.{Movable}
 use Rattle.rollout.specs.laws.Draws.{drawn_there, drawn_is}
 use Rattle.rollout.specs.laws.Rollout.{roll_over, roll_refused, roll_sampled}
 use Rattle.rollout.proofs.rollout.roll_out.Goals as goal
-use Rattle.rollout.proofs.rollout.roll_out.Goals.{After-draw, After-attributes_of, After-execute-state, After-moves_at_once-moves}
+use Rattle.rollout.proofs.rollout.roll_out.Goals.{After-draw, After-attributes_of-row, After-execute-state, After-moves_at_once-moves}
 
 -- what is drawn is drawn of the moves
 drawn : (c : After-draw)
@@ -34,7 +34,7 @@ drawn : (c : After-draw)
 drawn c = sym c.draw.ensures
 
 -- ---- where it names one of them
-module _ (c : After-attributes_of) where
+module _ (c : After-attributes_of-row) where
   abbrev context : CraftContext
   context = c.args.context
 
@@ -54,7 +54,7 @@ module _ (c : After-attributes_of) where
   set = c.loop-moves.moves.bits
 
   named : drawn_of set (drop at draws) ≡ Ok n
-  named = drawn (goal.at.After-attributes_of c).After-draw ∙ c.in_ok-n.was
+  named = drawn (goal.at.After-attributes_of-row c).After-draw ∙ c.in_ok-n.was
 
   there : at < length draws
   there = drawn_there set draws at named
@@ -70,18 +70,18 @@ module _ (c : After-attributes_of) where
 
 -- the turn leaves the state after it
 module _ (c : After-execute-state) where
-  moved : c.execute-state.result ≡ execute_of (context (goal.at.After-execute-state c).After-attributes_of) (state (goal.at.After-execute-state c).After-attributes_of) (n (goal.at.After-execute-state c).After-attributes_of)
-  moved = c.execute-state.ensures ∙ ap (executed_of _ _ _) c.attributes_of.ensures
+  moved : c.execute-state.result ≡ execute_of (context (goal.at.After-execute-state c).After-attributes_of-row) (state (goal.at.After-execute-state c).After-attributes_of-row) (n (goal.at.After-execute-state c).After-attributes_of-row)
+  moved = c.execute-state.ensures ∙ ap (executed_of _ _ _) c.attributes_of-row.ensures
 
-  kept : CraftIn (context (goal.at.After-execute-state c).After-attributes_of) c.execute-state.result
+  kept : CraftIn (context (goal.at.After-execute-state c).After-attributes_of-row) c.execute-state.result
   kept =
-      let t = (goal.at.After-execute-state c).After-attributes_of in
+      let t = (goal.at.After-execute-state c).After-attributes_of-row in
       rw moved (legal_keeps attributes_of rows_bounded (context t) (state t) plain (n t) (movable t).inside (known t) (legal t))
 
 -- the strict moves of the state after it are moves of it
-strictly : (c : After-moves_at_once-moves) → Movable (context (goal.at.After-moves_at_once-moves c).After-attributes_of) c.execute-state.result c.moves_at_once-moves.result.bits
+strictly : (c : After-moves_at_once-moves) → Movable (context (goal.at.After-moves_at_once-moves c).After-attributes_of-row) c.execute-state.result c.moves_at_once-moves.result.bits
 strictly c =
-    let t = (goal.at.After-moves_at_once-moves c).After-attributes_of in
+    let t = (goal.at.After-moves_at_once-moves c).After-attributes_of-row in
     let next = c.execute-state.result in
     record {
       inside = kept (goal.at.After-moves_at_once-moves c).After-execute-state;
@@ -91,17 +91,20 @@ strictly c =
           strict_part attributes_of (context t) next n (legal_known attributes_of (context t) next strict n is) is;
     }
 
+pub invariant_of-execute : goal.invariant_of-execute
+invariant_of-execute c = record { bounds = rw c.attributes_of-row.ensures (known c, rows_bounded (n c) (known c)) }
+
 pub execute-state-requires : goal.execute-state-requires
 execute-state-requires c =
-    rw c.attributes_of.ensures
-    (legal_playable attributes_of rows_bounded (context c) (state c) plain (n c) (movable c).inside (known c) (legal c), rows_bounded (n c) (known c))
+    let t = (goal.at.execute-state-requires c).After-attributes_of-row in
+    rw c.attributes_of-row.ensures (legal_playable attributes_of rows_bounded (context t) (state t) plain (n t) (movable t).inside (known t) (legal t))
 
 pub invariant_of-moves_at_once : goal.invariant_of-moves_at_once
 invariant_of-moves_at_once c = record { inside = kept (goal.at.invariant_of-moves_at_once c).After-execute-state }
 
 pub loop-moves-preserved : goal.loop-moves-preserved
 loop-moves-preserved c =
-    let t = (goal.at.loop-moves-preserved c).After-attributes_of in
+    let t = (goal.at.loop-moves-preserved c).After-attributes_of-row in
     let on = roll_sampled (context t) (state t) (set t) (at t) c.loop-moves-test.true (draws t) (named t) in
     let roll : CraftState → ℕ → Rolled = λ x m. rolled_from (context t) x m (at t + 1) (drop (at t + 1) (draws t)) in (
       ap (roll c.execute-state.result) c.moves_at_once-moves.ensures
@@ -112,7 +115,7 @@ loop-moves-preserved c =
     )
 
 pub loop-moves-smaller : goal.loop-moves-smaller
-loop-moves-smaller c = omega (arith, there (goal.at.loop-moves-smaller c).After-attributes_of)
+loop-moves-smaller c = omega (arith, there (goal.at.loop-moves-smaller c).After-attributes_of-row)
 
 -- ---- where it ends
 pub returns-in_err-n : goal.returns-in_err-n

@@ -83,19 +83,18 @@ pub turns-init : goal.turns-init
 unfolding replay_by
 turns-init c = (omega arith, simp c.fresh-state.ensures, subst (CraftIn _) (sym c.fresh-state.ensures) (start_in _ c.requires.0))
 
-pub passes-legal-requires : goal.passes-legal-requires
-passes-legal-requires c =
-    let at_attributes_of = (goal.at.passes-legal-requires c).After-attributes_of-row in (known at_attributes_of, bounded at_attributes_of)
+pub invariant_of-candidate : goal.invariant_of-candidate
+invariant_of-candidate c =
+    let at_attributes_of = (goal.at.invariant_of-candidate c).After-attributes_of-row in
+    record { bounds = (known at_attributes_of, bounded at_attributes_of) }
 
 pub play-state-requires : goal.play-state-requires
 play-state-requires c =
     let at_attributes_of = (goal.at.play-state-requires c).After-attributes_of-row in
-    let inside = c.turns.invariant.2 in (
-      λ t.
-          subst (Playable _ _ _) (sym c.attributes_of-row.ensures)
-          (legal_playable attributes_of rows_bounded _ _ _ _ inside (known at_attributes_of) (legal_is attributes_of _ _ _ _ (known at_attributes_of) (going (goal.at.play-state-requires c).Else-has_ended) (tested (goal.at.play-state-requires c).After-passes-legal t))),
-      bounded at_attributes_of,
-    )
+    let inside = c.turns.invariant.2 in
+    λ t.
+        subst (Playable _ _ _) (sym c.attributes_of-row.ensures)
+        (legal_playable attributes_of rows_bounded _ _ _ _ inside (known at_attributes_of) (legal_is attributes_of _ _ _ _ (known at_attributes_of) (going (goal.at.play-state-requires c).Else-has_ended) (tested (goal.at.play-state-requires c).After-passes-legal t)))
 
 pub turns-preserved : goal.turns-preserved
 turns-preserved c =

@@ -15,20 +15,26 @@ use Rattle.transcript.specs.laws.Transcript.{next_known, next_legal, rest_played
 use Rattle.transcript.proofs.rows.put_rows.Goals as goal
 
 -- the row that is looked up is the table's
+pub invariant_of-execute : goal.invariant_of-execute
+invariant_of-execute c =
+    let l = c.loop-n in
+    let known = next_known _ l.state _ c.loop-n-test.true l.invariant.1 in
+    record { bounds = rw c.attributes_of-row.ensures (known, rows_bounded _ known) }
+
 pub execute-state-requires : goal.execute-state-requires
 execute-state-requires c =
     let l = c.loop-n in
     let h = c.loop-n-test.true in
     let known = next_known _ l.state _ h l.invariant.1 in
-    rw c.attributes_of.ensures
-    (legal_playable attributes_of rows_bounded _ l.state plain _ l.invariant.0 known (next_legal _ l.state _ h l.invariant.1), rows_bounded _ known)
+    rw c.attributes_of-row.ensures
+    (legal_playable attributes_of rows_bounded _ l.state plain _ l.invariant.0 known (next_legal _ l.state _ h l.invariant.1))
 
 pub loop-n-preserved : goal.loop-n-preserved
 loop-n-preserved c =
     let l = c.loop-n in
     let h = c.loop-n-test.true in
     let known = next_known _ l.state _ h l.invariant.1 in
-    let e = c.execute-state.ensures ∙ ap (executed_of _ _ _) c.attributes_of.ensures in
+    let e = c.execute-state.ensures ∙ ap (executed_of _ _ _) c.attributes_of-row.ensures in
     let p = c.put_row-end.ensures.0 in (
       subst (CraftIn _) (sym e) (legal_keeps attributes_of rows_bounded _ l.state plain _ l.invariant.0 known (next_legal _ l.state _ h l.invariant.1)),
       rest_played _ l.state _ h e l.invariant.1,
