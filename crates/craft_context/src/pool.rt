@@ -1,6 +1,5 @@
 // Which actions a player has for a recipe.
 ghost use Rattle.std.specs.Prelude.{◌≡◌};
-ghost use Rattle.action.specs.Price.{affordable};
 ghost use Rattle.craft_context.specs.Pool.{ahead, able, twin_of, in_pool, pool_of};
 
 use super::sheet::{Player, Recipe};
@@ -13,13 +12,6 @@ const ALL: u32 = ActionSet::LIMIT - 1;
 // How far the player's level must be ahead for TrainedEye.
 const TRAINED_EYE_LEVELS: u32 = 10;
 
-// No cost counts 0.
-fn can_pay(cp: u32, price: Option<u32>) -> bool
-    ensures { result ≡ affordable cp price }
-{
-    price.unwrap_or(0) <= cp
-}
-
 fn levels_ahead(player: Player, recipe: Recipe) -> u32
     ensures { result ≡ ahead player recipe }
 {
@@ -31,7 +23,7 @@ fn is_able(player: Player, recipe: Recipe, n: u8) -> bool
 {
     let row = action::attributes_of(n);
     row.level <= player.job_level
-        && can_pay(player.cp, row.cp_cost)
+        && action::can_pay(player.cp, row.cp_cost)
         && (n != action::TRAINED_EYE || levels_ahead(player, recipe) >= TRAINED_EYE_LEVELS)
 }
 

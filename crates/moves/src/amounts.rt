@@ -8,7 +8,6 @@ ghost use Rattle.action_set.specs.Sets.{keep_of};
 ghost use Rattle.moves.specs.Rules.{may_progress};
 ghost use Rattle.moves.specs.inner.Sets.{amount_of, finishes_with, finishing_of};
 
-use super::candidate::can_pay;
 use super::sets::{PURE_PROGRESS, unless};
 use super::strict::QUALITY_PART;
 use action_set::bits::Bits;
@@ -23,7 +22,7 @@ pub fn keep_payable(points: u32, set: Bits) -> Bits
     if points >= action::DEAREST {
         return set;
     }
-    set.keep(|n| can_pay(points, action::attributes_of(n).cp_cost))
+    set.keep(|n| action::can_pay(points, action::attributes_of(n).cp_cost))
 }
 
 #[tactic(auto, using(action::specs::laws::Bounds::rows_bounded, crate::specs::laws::Amounts::amount_at_most))]

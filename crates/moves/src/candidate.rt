@@ -1,7 +1,6 @@
 // The test of one candidate: price and quality in either mode, then the rules of the mode.
 ghost use Rattle.std.specs.Prelude.{◌≡◌, ◌<◌};
 ghost use Rattle.action.specs.Known.{actions};
-ghost use Rattle.action.specs.Price.{affordable};
 ghost use Rattle.moves.specs.Rules.{may_improve};
 ghost use Rattle.moves.specs.Moves.{allowed_of, allows_of};
 
@@ -11,16 +10,6 @@ use super::strict::strictly;
 use craft_context::CraftContext;
 use craft_state::{Craft, CraftState};
 use step::Candidate;
-
-// The full price: the candidate's combo does not count, as in the Rust.
-pub fn can_pay(points: u32, price: Option<u32>) -> bool
-    ensures { result ≡ affordable points price }
-{
-    let Some(cost) = price else {
-        return true;
-    };
-    cost <= points
-}
 
 // No quality action once quality is at its target.
 fn may_improve(context: CraftContext, state: CraftState, attribute: Option<u32>) -> bool
@@ -32,14 +21,14 @@ fn may_improve(context: CraftContext, state: CraftState, attribute: Option<u32>)
     state.quality < context.quality_target
 }
 
-// One candidate by its row.
+// One candidate by its row. The price is the full one: its combo does not count, as in the Rust.
 #[tactic(auto, unfolding(crate::specs::Moves::allowed_of))]
 pub fn allowed(craft: Craft, mode: Mode, candidate: Candidate) -> bool
     ensures { result ≡ allowed_of craft.context craft.state mode candidate.n candidate.row }
 {
     let cost = candidate.row.cp_cost;
     let quality = candidate.row.quality_efficiency;
-    if !(can_pay(craft.state.cp, cost) & may_improve(craft.context, craft.state, quality)) {
+    if !(action::can_pay(craft.state.cp, cost) & may_improve(craft.context, craft.state, quality)) {
         return false;
     }
     if mode.strict {
