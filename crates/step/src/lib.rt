@@ -11,7 +11,7 @@ mod progress;
 mod quality;
 mod whole;
 
+pub use candidate::Candidate;
 pub use durability::wears;
 pub use quality::on_basic_touch;
-pub use candidate::Candidate;
 pub use whole::execute;

@@ -93,8 +93,8 @@ play-state-requires c =
     let at_attributes_of = (goal.at.play-state-requires c).After-attributes_of-row in
     let inside = c.turns.invariant.2 in
     λ t.
-        subst (Playable _ _ _) (sym c.attributes_of-row.ensures)
-        (legal_playable attributes_of rows_bounded _ _ _ _ inside (known at_attributes_of) (legal_is attributes_of _ _ _ _ (known at_attributes_of) (going (goal.at.play-state-requires c).Else-has_ended) (tested (goal.at.play-state-requires c).After-passes-legal t)))
+    subst (Playable _ _ _) (sym c.attributes_of-row.ensures)
+    (legal_playable attributes_of rows_bounded _ _ _ _ inside (known at_attributes_of) (legal_is attributes_of _ _ _ _ (known at_attributes_of) (going (goal.at.play-state-requires c).Else-has_ended) (tested (goal.at.play-state-requires c).After-passes-legal t)))
 
 pub turns-preserved : goal.turns-preserved
 turns-preserved c =
