@@ -7,7 +7,7 @@ ghost use Rattle.action.specs.inner.Texts.{shortest, longest, key_of};
 
 use super::ACTIONS;
 
-// The names in one run, a line for each: a table of the texts themselves was tried, and its proof did not close.
+// The names in one run, a line for each. A static table of the texts was tried: that it has the name at a number, `returns` of `name_of`, did not close.
 static NAMES: [u8; 419] = *b"BasicSynthesis\
     BasicTouch\
     MastersMend\

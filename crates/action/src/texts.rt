@@ -62,6 +62,7 @@ fn put_macro_text(n: u8, out: &mut [u8], at: usize) -> usize
 // Of the three: in bytes, no text is longer.
 pub const TEXT_MOST: usize = 33;
 
+// Which of the three, so that one statement serves three entries.
 #[derive(Clone, Copy, Debug, PartialEq, Eq)]
 pub enum Text {
     Name,

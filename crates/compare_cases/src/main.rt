@@ -16,7 +16,7 @@ const WIDTH: usize = 256;
 
 // What is no other kind's is read as a context.
 fn answer(page: &mut Page, line: &[u8]) -> io::Result<()> {
-    match case::kind(line).unwrap_or(Kind::Context) {
+    match Kind::try_from(case::kind(line)).unwrap_or(Kind::Context) {
         Kind::Attributes => of_actions::attributes(page, line),
         Kind::Price => of_actions::price(page, line),
         Kind::Wait => of_actions::wait(page, line),

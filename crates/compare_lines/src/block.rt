@@ -14,6 +14,7 @@ pub fn fill<R: Read>(input: &mut R, block: &mut [u8]) -> io::Result<usize>
     ensures end { IfOk result (λ n. n < length block.new → IsAtEnd (R.remaining input.new)) }
 {
     let mut got = 0;
+    // A range that is never gone through: a `for` needs no measure, and an input has none.
     for _ in 0..u64::MAX {
         if got >= block.len() {
             break;

@@ -1,7 +1,6 @@
 // The line of a case: its kind in two digits, numbers of ten digits each, and bytes of text in a case of `compare_cases` and a replay.
 ghost use Rattle.std.specs.Prelude.{◌<◌};
 
-use super::kind::{Kind, UnknownKind};
 use crafty::Combo;
 
 const TEXT: usize = 212;
@@ -18,8 +17,8 @@ fn digit(line: &[u8], at: usize) -> u8
     }
 }
 
-pub fn kind(line: &[u8]) -> Result<Kind, UnknownKind> {
-    Kind::try_from(digit(line, 0) * 10 + digit(line, 1))
+pub fn kind(line: &[u8]) -> u64 {
+    u64::from(digit(line, 0) * 10 + digit(line, 1))
 }
 
 // Number i of the line.
@@ -37,7 +36,7 @@ pub fn byte(line: &[u8], i: u8) -> u8 {
     (number(line, i) % 256) as u8
 }
 
-// Number i as a combo.
+// Number i as a combo. A match: a `TryFrom` of its crate would be public for this line alone.
 pub fn combo(line: &[u8], i: u8) -> Option<Combo> {
     match number(line, i) {
         1 => Some(Combo::BasicTouch),

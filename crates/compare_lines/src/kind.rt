@@ -31,12 +31,12 @@ pub enum Kind {
 
 // A number that is no kind's.
 #[derive(Clone, Copy, Debug, PartialEq, Eq)]
-pub struct UnknownKind(pub u8);
+pub struct UnknownKind(pub u64);
 
-impl TryFrom<u8> for Kind {
+impl TryFrom<u64> for Kind {
     type Error = UnknownKind;
 
-    fn try_from(number: u8) -> Result<Kind, UnknownKind> {
+    fn try_from(number: u64) -> Result<Kind, UnknownKind> {
         match number {
             1 => Ok(Kind::Attributes),
             2 => Ok(Kind::Price),

@@ -17,7 +17,7 @@ const WIDTH: usize = 512;
 
 // What is no other kind's is read as a state.
 fn answer_line(page: &mut Page, line: &[u8]) -> io::Result<()> {
-    match case::kind(line) {
+    match Kind::try_from(case::kind(line)) {
         Ok(Kind::Replay) => replays::answer(page, line),
         Ok(Kind::Display) => displays::answer(page, line),
         _ => answer::answer(page, line),

@@ -7,6 +7,7 @@ use compare_lines::page::{Bits, OrDash};
 use crafty::{Combo, CraftResult, CraftState, Perfection};
 use std::fmt;
 
+// The line's own numbers, as casts.
 fn combo(c: Option<Combo>) -> u32
     ensures { result ≡ combo_number c }
 {

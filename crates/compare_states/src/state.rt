@@ -11,6 +11,7 @@ fn signed(line: &[u8], i: u8) -> i8 {
     i8::from_le_bytes([case::byte(line, i)])
 }
 
+// As `case::combo`.
 fn perfection(number: u32) -> Perfection {
     match number {
         1 => Perfection::Active,

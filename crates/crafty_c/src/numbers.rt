@@ -50,7 +50,7 @@ fn verdict(res: CraftResult) -> u32
     }
 }
 
-// The bits of the score, 0 where there is none.
+// The bits of the score, 0 where there is none. A match, since an enum with a float inside has no numbers.
 fn score_bits(res: CraftResult) -> u32
     requires { ScoreIsNumber res }
     ensures { result ≡ score_number res }
@@ -61,7 +61,7 @@ fn score_bits(res: CraftResult) -> u32
     }
 }
 
-// No combo is 0, and the others follow in their order.
+// No combo is 0, and the others follow in their order: a number of the C interface, and of no other crate.
 fn combo_number(combo: Option<Combo>) -> u32
     ensures { result ≡ combo_number combo }
 {

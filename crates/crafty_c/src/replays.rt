@@ -33,6 +33,7 @@ fn replay(numbers: Fields, mode: Mode, list: &[u8], out: &mut [u32]) -> Result<u
     report(context, mode, list, out)
 }
 
+// The C interface: fifteen numbers, which `Fields` names.
 #[unsafe(no_mangle)]
 pub extern "C" fn crafty_replay(
     player_job_level: u32,

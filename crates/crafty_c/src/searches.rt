@@ -108,6 +108,7 @@ fn search_in(
     }
 }
 
+// The C interface: fifteen numbers, which `Fields` names, and four of `SearchOptions`.
 #[unsafe(no_mangle)]
 pub extern "C" fn crafty_search(
     nodes: &mut [Node],

@@ -20,7 +20,7 @@ pub fn has_ended(context: CraftContext, state: CraftState) -> bool
         | (state.durability <= 0)
 }
 
-// The walk over a set: each member is tested, and dropped if it fails.
+// Those of a set that pass the test.
 fn keep_allowed(craft: Craft, mode: Mode, set: Bits) -> Bits
     ensures { result.bits ≡ keep_of (allows_of craft.context craft.state mode) set.bits }
 {

@@ -8,7 +8,7 @@ use moves::Mode;
 
 #[derive(Clone, Copy, Debug, PartialEq)]
 pub enum CraftResult {
-    // Progress is at its target: the score.
+    // Progress is at its target: the score, which is asked for inside; that it is a number is a promise beside each answer.
     Finished(f32),
     DurabilityFailure,
     MaxStepsFailure,

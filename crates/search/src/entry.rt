@@ -46,8 +46,8 @@ fn check_first(
     refusal::check_room(records, 1)
 }
 
-#[tactic(auto, unfolding(simulator::specs::Replay::stop_by, simulator::specs::Replay::replay_from, simulator::specs::Replay::replay_by))]
 // Record 0 has the plain moves of the start: those of a replay of no action, which leaves the single test to the loop of replay alone.
+#[tactic(auto, unfolding(simulator::specs::Replay::stop_by, simulator::specs::Replay::replay_from, simulator::specs::Replay::replay_by))]
 fn root_of(context: CraftContext) -> Node
     requires { ContextIn context }
     ensures { result ≡ root_node (moves_of context (start_of context) plain) }
@@ -57,6 +57,7 @@ fn root_of(context: CraftContext) -> Node
 }
 
 // The iterations of an accepted search, and the path that its records hold. The state at the last record is the one that a replay of the path comes to.
+// A refusal comes with what was done before it, so it is no plain `?`.
 pub fn search(
     nodes: &mut [Node],
     logs: &[f32],

@@ -126,6 +126,7 @@ pub fn select(
 {
     let mut at = 0;
     let mut state = fresh(context);
+    // The steps are the records' own.
     while let Some(child) = next_child(nodes, links, logs, options, count, at) {
         let n = node_at(nodes, child);
         state = stepped(context, state, n.action);

@@ -24,7 +24,7 @@ pub struct Replay {
     pub executed: usize,
 }
 
-// The state after an action that passed the test; what did not pass would leave it as it was.
+// The state after an action that passed the test. What did not pass would leave it as it was, and the flag is there for the edit that lets one not pass.
 fn play(craft: Craft, candidate: Candidate, legal: bool) -> CraftState
     requires { legal ≡ true → Playable craft.context craft.state candidate.n candidate.row }
     ensures { result ≡ cond legal (executed_of craft.context craft.state candidate.n candidate.row) craft.state }

@@ -29,8 +29,8 @@ pub fn is_better(best: Option<Best>, n: Node) -> bool
     }
 }
 
-#[tactic(auto, unfolding(crate::specs::inner::Best::pick_of))]
 // The best child, when record k comes after those that it was found among.
+#[tactic(auto, unfolding(crate::specs::inner::Best::pick_of))]
 pub fn pick(best: Option<Best>, k: usize, n: Node, parent: usize) -> Option<Best>
     ensures { result ≡ pick_of best k n parent }
 {

@@ -40,7 +40,7 @@ fn touch(nodes: &mut [Node], k: usize, score: f32)
     put_node(nodes, k, touched(n, score));
 }
 
-// The way comes by the target, so it ends there.
+// The way comes by the target, so it ends there. Again the steps are the records' own.
 pub fn touch_path(nodes: &mut [Node], start: usize, target: usize, score: f32)
     requires { Reaches nodes.old start target }
     ensures { nodes.new ≡ back_of nodes.old start target score }

@@ -21,7 +21,8 @@ pub fn best_child(nodes: &[Node], count: usize, parent: usize) -> Option<usize>
     Some(best?.at)
 }
 
-// How many actions the way down has.
+// How many actions the way down has. Each step is the record's own, here and below, so no range goes over them; a sound tree is asked, since the C interface
+// lends records and a count.
 pub fn solution_len(nodes: &[Node], count: usize) -> usize
     requires { SoundTree nodes.now count }
     ensures { result ≡ length (solution_of nodes.now count) }

@@ -20,8 +20,8 @@ pub fn plant(nodes: &mut [Node], unused: u32) -> Result<usize, Refusal>
     Ok(NEW_COUNT)
 }
 
-#[tactic(auto, using(crate::specs::laws::Tree::checked_tree), unfolding(refusal::specs::Judge::judged))]
 // The new record's number and the new count. Its parent's unused moves stay as they are.
+#[tactic(auto, using(crate::specs::laws::Tree::checked_tree), unfolding(refusal::specs::Judge::judged))]
 pub fn insert(
     nodes: &mut [Node],
     count: usize,

@@ -8,8 +8,8 @@ use super::node::Node;
 use super::scan::{check_node, check_tree};
 use refusal::Refusal;
 
-#[tactic(auto, using(crate::specs::laws::Tree::checked_tree), unfolding(refusal::specs::Judge::judged))]
 // The children of record k, in record order, and how many they are.
+#[tactic(auto, using(crate::specs::laws::Tree::checked_tree), unfolding(refusal::specs::Judge::judged))]
 pub fn children(nodes: &[Node], out: &mut [usize], count: usize, k: usize) -> Result<usize, Refusal>
     ensures { Lists nodes.now count k out.old result out.new }
 {
@@ -20,8 +20,8 @@ pub fn children(nodes: &[Node], out: &mut [usize], count: usize, k: usize) -> Re
     Ok(put_children(nodes, out, count, k))
 }
 
-#[tactic(auto, using(crate::specs::laws::Tree::checked_tree), unfolding(refusal::specs::Judge::judged))]
 // From record 0 on the best child of each: their actions, how many they are, and the last record.
+#[tactic(auto, using(crate::specs::laws::Tree::checked_tree), unfolding(refusal::specs::Judge::judged))]
 pub fn solution(nodes: &[Node], out: &mut [u8], count: usize) -> Result<(usize, usize), Refusal>
     ensures { Solves nodes.now count out.old result out.new }
 {
