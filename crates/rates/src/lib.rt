@@ -23,7 +23,8 @@ pub struct Best {
     pub gained: f32,
 }
 
-// Child k, with its root worked out.
+// Child k, with its root worked out. One piece with `better`, as `ucb1::exploration` with it.
+#[inline(always)]
 fn rated(k: usize, visits: f32, gained: f32, weights: Weights) -> Best
     ensures { result ≡ rated k visits gained weights }
 {

@@ -14,7 +14,7 @@ const SPACE: u8 = 32;
 fn is_gap(b: u8) -> bool
     ensures { result ≡ gap b }
 {
-    matches!(b, TAB | NEWLINE | RETURN | SPACE)
+    (b == TAB) | (b == NEWLINE) | (b == RETURN) | (b == SPACE)
 }
 
 pub fn first_letter(text: &[u8]) -> Option<usize>

@@ -32,6 +32,7 @@ impl<'a> Iterator for Words<'a> {
 
     ghost remaining = { item_count told_from };
 
+    #[inline(always)]
     fn next(&mut self) -> Option<Result<u8, usize>> {
         let start = self.at + first_letter(&self.text[self.at..])?;
         let rest = &self.text[start..];

@@ -85,14 +85,23 @@ fn root_of(m: u32, k: u32, zeros: u32, guess: u64) -> u32
     (k + LOWEST - s) / 2 * HIDDEN + p as u32
 }
 
-// The root's bit pattern, of one that is above 0 and below the infinity's. Guesses are for normal values, which are the usual ones.
+// Of a pattern below the normal ones the one to guess by: a normal one, whose root has the same digits. Nothing is promised of it but that it is finite.
+fn normal_of(b: u32, zeros: u32) -> u32
+    requires { zeros ≤ 32 }
+    ensures { result < infinity_bits }
+{
+    zeros % 2 * HIDDEN + (b << zeros.saturating_sub(NORMAL_ZEROS)) % (2 * HIDDEN)
+}
+
+// The root's bit pattern, of one that is above 0 and below the infinity's.
 #[tactic(auto, using(crate::specs::laws::Patterns::of_subnormal, crate::specs::laws::Patterns::of_normal, crate::specs::laws::Scaled::normal_zeros))]
 fn root_bits(b: u32) -> u32
     requires { (0 < b) × (b < infinity_bits) }
     ensures { (result ≡ root_bits b) × (result < infinity_bits) }
 {
     if b < HIDDEN {
-        return root_of(b, 0, b.leading_zeros(), 0);
+        let zeros = b.leading_zeros();
+        return root_of(b, 0, zeros, guess_of(normal_of(b, zeros)));
     }
     root_of(
         HIDDEN + b % HIDDEN,

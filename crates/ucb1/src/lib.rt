@@ -14,7 +14,8 @@ pub fn exploitation(w: f32, visits: f32, score_sum: f32, max_score: f32) -> f32
     (1.0 - w) * average_score + w * max_score
 }
 
-// The logarithm is that of the parent's visits.
+// The logarithm is that of the parent's visits. One piece with each caller, so that c * ln is worked out once for all children.
+#[inline(always)]
 pub fn exploration(c: f32, ln: f32, visits: f32) -> f32
     ensures { result ≡ exploration_of c ln visits }
 {
